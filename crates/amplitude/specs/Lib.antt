@@ -1,0 +1,2 @@
+pub mod Amp
+pub mod Leaf

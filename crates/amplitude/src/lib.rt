@@ -1,0 +1,1 @@
+// Document 01, "Amplitudes": definitions in specs/, theorems in proofs/. No code.
