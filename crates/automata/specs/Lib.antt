@@ -1,0 +1,4 @@
+pub mod Choice
+pub mod Tree
+pub mod Sets
+pub mod Members
