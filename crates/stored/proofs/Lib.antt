@@ -1,0 +1,7 @@
+pub mod FieldLaws
+pub mod ScanLaws
+pub mod OrderLaws
+pub mod Levels
+pub mod WellFormed
+pub mod ReadBack
+pub mod Reading
