@@ -5,3 +5,9 @@ pub mod Crossed
 pub mod NumberingLaws
 pub mod Fits
 pub mod Demand2
+pub mod BuildShape
+pub mod BuildLevels
+pub mod Stages
+pub mod WellBuilt
+pub mod Circuits
+pub mod KeysApart

@@ -106,7 +106,7 @@ module _ {K : Type 0} (eq : K → K → Bool) (same : (x : K) → eq x x ≡ tru
   all-keeps f k [] ks h = h
   all-keeps f k (x ∷ xs) ks h = all-keeps f k xs (mentions eq ks (f x)) (mentions-keeps k (f x) ks h)
 
-  abbrev Mentioned : List K → List (Alt (K × K)) → Type 0
+  abbrev pub Mentioned : List K → List (Alt (K × K)) → Type 0
   Mentioned ks [] = Unit {0}
   Mentioned ks (alt m p ∷ us) = (isIn eq (p .0) ks ≡ true) × (isIn eq (p .1) ks ≡ true) × Mentioned ks us
 
@@ -123,7 +123,7 @@ module _ {K : Type 0} (eq : K → K → Bool) (same : (x : K) → eq x x ≡ tru
   weaken ks ls (alt n p ∷ us) h m = (h (p .0) (m .0), h (p .1) (m .1), weaken ks ls us h (m .2))
 
   module _ (sound : (x y : K) → eq x y ≡ true → x ≡ y) (f : K → List (Alt (K × K))) where
-    covered : (xs ks : List K) (x : K) → isIn eq x xs ≡ true → Mentioned (mentionAll eq f ks xs) (f x)
+    pub covered : (xs ks : List K) (x : K) → isIn eq x xs ≡ true → Mentioned (mentionAll eq f ks xs) (f x)
     covered [] ks x h = absurd (false≢true h)
     covered (y ∷ xs) ks x h = go (eq y x) refl h (covered xs (mentions eq ks (f y)) x)
       where
@@ -145,6 +145,16 @@ module _ {K : Type 0} (eq : K → K → Bool) (same : (x : K) → eq x x ≡ tru
             → andThen (cond b (some (r p)) (choose c (mapAlt r us))) G ≡ andThen (cond b (some p) (choose c us)) U
         go true e = h p (m .0) (m .1)
         go false e = e
+
+-- a state that is in the list has its place there
+module _ {K : Type 0} (eq : K → K → Bool) where
+  pub place-lt : (x : K) (ks : List K) → isIn eq x ks ≡ true → place eq x ks < length ks
+  place-lt x [] h = absurd (false≢true h)
+  place-lt x (y ∷ ys) h = go (eq y x) h (place-lt x ys)
+    where
+      go : (t : Bool) → (t || isIn eq x ys) ≡ true → (isIn eq x ys ≡ true → place eq x ys < length ys) → cond t 0 (suc (place eq x ys)) < suc (length ys)
+      go true k ih = omega arith
+      go false k ih = let l : place eq x ys < length ys = ih k in omega arith
 
 -- ---- the theorem
 module _ {K : Type 0} (eq : K → K → Bool) (A : Automaton K) where
@@ -191,20 +201,12 @@ module _ {K : Type 0} (eq : K → K → Bool) (same : (x : K) → eq x x ≡ tru
       under : (q : ℕ) → b ≤ q → own q (pre ++ this) ≡ []
       under q k = own-append q pre this ∙ ap₂ _++_ (u q (omega arith)) (all-after f q s ks k)
 
-      place-lt : (ls : List K) → isIn eq x ls ≡ true → place eq x ls < length ls
-      place-lt [] h′ = absurd (false≢true h′)
-      place-lt (y ∷ ys) h′ = go (eq y x) h′ (place-lt ys)
-        where
-          go : (t : Bool) → (t || isIn eq x ys) ≡ true → (isIn eq x ys ≡ true → place eq x ys < length ys) → cond t 0 (suc (place eq x ys)) < suc (length ys)
-          go true h″ ih = omega arith
-          go false h″ ih = let k : place eq x ys < length ys = ih h″ in omega arith
-
       mine : own (s + place eq x ks) ((pre ++ this) ++ rest) ≡ f x
       mine =
           own-append (s + place eq x ks) (pre ++ this) rest
           ∙ ap₂ _++_
           (own-append (s + place eq x ks) pre this ∙ ap₂ _++_ (u (s + place eq x ks) (omega arith)) (all-at f eq sound s ks x h))
-          (from-number eq A n (suc i) b next (s + place eq x ks) (let k : place eq x ks < length ks = place-lt ks h in omega arith))
+          (from-number eq A n (suc i) b next (s + place eq x ks) (let k : place eq x ks < length ks = place-lt eq x ks h in omega arith))
           ∙ append-nil (f x)
 
 -- ---- a number, once given, stays: what a loop that writes records while it reads needs
