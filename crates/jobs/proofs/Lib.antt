@@ -1,1 +1,4 @@
 pub mod Examples
+pub mod CheckTheorem
+pub mod GateTheorem
+pub mod Determined
