@@ -37,6 +37,13 @@ pub ⊕0 : (x : Amp) → x ⊕ 0A ≡ x
 ⊕0 (amp a b c d) = simp +ℤ-idr
 
 -- ---- ω: one law over j for each fact
+-- "ω⁴ = −1": A − B is A + ω⁴B, and ω⁸ = 1
+pub ⊖-is : (x y : Amp) → x ⊖ y ≡ x ⊕ ω^ 4 y
+⊖-is (amp a b c d) (amp a′ b′ c′ d′) = refl
+
+pub ω^8 : (x : Amp) → ω^ 8 x ≡ x
+ω^8 (amp a b c d) = simp linear
+
 pub ω-add : (x y : Amp) → timesω (x ⊕ y) ≡ timesω x ⊕ timesω y
 ω-add (amp a b c d) (amp a′ b′ c′ d′) = simp linear
 
@@ -47,13 +54,6 @@ pub ω^-add : (j : ℕ) (x y : Amp) → ω^ j (x ⊕ y) ≡ ω^ j x ⊕ ω^ j y
 pub ω^-plus : (i j : ℕ) (x : Amp) → ω^ (i + j) x ≡ ω^ i (ω^ j x)
 ω^-plus zero j x = ap (λ (m : ℕ). ω^ m x) (zero-add j)
 ω^-plus (suc i) j x = ap (λ (m : ℕ). ω^ m x) (suc-add i j) ∙ ap timesω (ω^-plus i j x)
-
--- "ω⁴ = −1", so ω⁸ = 1 and A − B = A + ω⁴B
-pub ω^8 : (x : Amp) → ω^ 8 x ≡ x
-ω^8 (amp a b c d) = simp linear
-
-pub ⊖-is : (x y : Amp) → x ⊖ y ≡ x ⊕ ω^ 4 y
-⊖-is (amp a b c d) (amp a′ b′ c′ d′) = refl
 
 -- ---- √2
 -- √2 is ω − ω³, the textbook value: document 01's rule is the right one

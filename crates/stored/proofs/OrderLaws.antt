@@ -35,34 +35,7 @@ module _ {X : Type 0} where
   abbrev pub Follows : Rec X → Rec X → Type 0
   Follows (rec s m x) (rec q m′ y) = (s < q) ⊎ Sibling s m q m′
 
-  precedes-of : (p t : Rec X) → Follows p t → precedes p t ≡ true
-  precedes-of (rec s m x) (rec q m′ y) (inl h) = rw (lt-ltb s q h)
-  precedes-of (rec s m x) (rec q m′ y) (inr h) = go (ltb s q)
-    where
-      go : (b : Bool) → b || (eqb s q && ltb (least m) (least m′)) ≡ true
-      go true = refl
-      go false = rw (eq-eqb s q (h .state), lt-ltb (least m) (least m′) (h .rises))
-
-  apart-of : (p t : Rec X) → Follows p t → apart p t ≡ true
-  apart-of (rec s m x) (rec q m′ y) (inl h) = rw (ne-eqb s q (λ e. omega arith))
-  apart-of (rec s m x) (rec q m′ y) (inr h) = rw (eq-eqb s q (h .state), eq-eqb (bitAnd m m′) 0 (h .apart))
-
-  fits-of : (ps : List (Rec X)) (t : Rec X) → Each (λ p. Follows p t) ps → fitsAfter ps t ≡ true
-  fits-of [] t h = refl
-  fits-of (p ∷ ps) t h =
-      rw (precedes-of p t (h .0)) (each-passes (λ q. apart q t) (p ∷ ps) (each-map (λ q. Follows q t) (λ q. apart q t ≡ true) (λ q k. apart-of q t k) (p ∷ ps) h))
-
-  no-clash : (ps ts : List (Rec X)) → Each (λ p. Each (Follows p) ts) ps → Strictly Follows ts → firstClash ps ts ≡ length ts
-  no-clash ps [] h k = refl
-  no-clash ps (t ∷ ts) h k =
-      rw (fits-of ps t (each-map (λ p. Each (Follows p) (t ∷ ts)) (λ p. Follows p t) (λ p a. a .0) ps h))
-      (ap suc (no-clash (t ∷ ps) ts (k .0, each-map (λ p. Each (Follows p) (t ∷ ts)) (λ p. Each (Follows p) ts) (λ p a. a .1) ps h) (k .1)))
-
-  pub strictly-ordered : (ts : List (Rec X)) → Strictly Follows ts → ordered ts ≡ true
-  unfolding ordered
-  strictly-ordered ts h = eq-eqb (firstClash [] ts) (length ts) (no-clash [] ts tt h)
-
-  -- ---- and the other way round: the latest record decides the order, since the earlier ones stand before it
+  -- ---- where the rule holds: the latest record decides the order, since the earlier ones stand before it
   -- the earlier records, the latest first: each follows those behind it
   abbrev Behind : List (Rec X) → Type 0
   Behind [] = Unit {0}
@@ -142,6 +115,34 @@ module _ {X : Type 0} where
   pub ordered-strictly : (ts : List (Rec X)) → ordered ts ≡ true → Strictly Follows ts
   unfolding ordered
   ordered-strictly ts h = clash-none [] ts tt (eqb-true (firstClash [] ts) (length ts) h) .among
+
+  -- ---- and the other way round
+  precedes-of : (p t : Rec X) → Follows p t → precedes p t ≡ true
+  precedes-of (rec s m x) (rec q m′ y) (inl h) = rw (lt-ltb s q h)
+  precedes-of (rec s m x) (rec q m′ y) (inr h) = go (ltb s q)
+    where
+      go : (b : Bool) → b || (eqb s q && ltb (least m) (least m′)) ≡ true
+      go true = refl
+      go false = rw (eq-eqb s q (h .state), lt-ltb (least m) (least m′) (h .rises))
+
+  apart-of : (p t : Rec X) → Follows p t → apart p t ≡ true
+  apart-of (rec s m x) (rec q m′ y) (inl h) = rw (ne-eqb s q (λ e. omega arith))
+  apart-of (rec s m x) (rec q m′ y) (inr h) = rw (eq-eqb s q (h .state), eq-eqb (bitAnd m m′) 0 (h .apart))
+
+  fits-of : (ps : List (Rec X)) (t : Rec X) → Each (λ p. Follows p t) ps → fitsAfter ps t ≡ true
+  fits-of [] t h = refl
+  fits-of (p ∷ ps) t h =
+      rw (precedes-of p t (h .0)) (each-passes (λ q. apart q t) (p ∷ ps) (each-map (λ q. Follows q t) (λ q. apart q t ≡ true) (λ q k. apart-of q t k) (p ∷ ps) h))
+
+  no-clash : (ps ts : List (Rec X)) → Each (λ p. Each (Follows p) ts) ps → Strictly Follows ts → firstClash ps ts ≡ length ts
+  no-clash ps [] h k = refl
+  no-clash ps (t ∷ ts) h k =
+      rw (fits-of ps t (each-map (λ p. Each (Follows p) (t ∷ ts)) (λ p. Follows p t) (λ p a. a .0) ps h))
+      (ap suc (no-clash (t ∷ ps) ts (k .0, each-map (λ p. Each (Follows p) (t ∷ ts)) (λ p. Each (Follows p) ts) (λ p a. a .1) ps h) (k .1)))
+
+  pub strictly-ordered : (ts : List (Rec X)) → Strictly Follows ts → ordered ts ≡ true
+  unfolding ordered
+  strictly-ordered ts h = eq-eqb (firstClash [] ts) (length ts) (no-clash [] ts tt h)
 
   -- ---- the records of one state: masks that share no choice, in order of least choice
   own-after : (q m : ℕ) (x : X) (ts : List (Rec X)) → Each (Follows (rec q m x)) ts → Apart m (own q ts) × Above (least m) (own q ts)

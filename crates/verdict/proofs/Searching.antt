@@ -140,19 +140,6 @@ one-is f (x ∷ ds) d h e = go (List·Memᴰ·cases-cons h) (λ k. one-is f ds d
 abbrev Goes : (ℕ → Option (List Pair)) → (List Pair → Bool) → ℕ → Type 0
 Goes step f d = (row : List Pair) × (step d ≡ some row) × (f row ≡ true)
 
-try-tells : (step : ℕ → Option (List Pair)) (f : List Pair → Bool) (ds : List ℕ) → tryEach step f ds ≡ true → (d : ℕ) × List·Memᴰ d ds × Goes step f d
-try-tells step f [] h = absurd (false≢true h)
-try-tells step f (d ∷ ds) h = go (step d) refl h (try-tells step f ds)
-  where
-    go : (o : Option (List Pair)) → step d ≡ o → orNext o f (tryEach step f ds) ≡ true → (tryEach step f ds ≡ true → (e : ℕ) × List·Memᴰ e ds × Goes step f e)
-        → (e : ℕ) × List·Memᴰ e (d ∷ ds) × Goes step f e
-    go none e k ih = let r : (x : ℕ) × List·Memᴰ x ds × Goes step f x = ih k in (r .0, List·Memᴰ·tail (r .1), r .2)
-    go (some row) e k ih = by (either (f row) (tryEach step f ds) k)
-      where
-        by : (f row ≡ true) ⊎ (tryEach step f ds ≡ true) → (x : ℕ) × List·Memᴰ x (d ∷ ds) × Goes step f x
-        by (inl l) = (d, List·Memᴰ·head refl, (row, e, l))
-        by (inr l) = let r : (x : ℕ) × List·Memᴰ x ds × Goes step f x = ih l in (r .0, List·Memᴰ·tail (r .1), r .2)
-
 try-is : (step : ℕ → Option (List Pair)) (f : List Pair → Bool) (ds : List ℕ) (d : ℕ) → List·Memᴰ d ds → Goes step f d → tryEach step f ds ≡ true
 try-is step f [] d h g = absurd (List·Memᴰ·not-nil h)
 try-is step f (x ∷ ds) d h g = go (List·Memᴰ·cases-cons h) (λ k. try-is step f ds d k g)
@@ -166,6 +153,19 @@ try-is step f (x ∷ ds) d h g = go (List·Memᴰ·cases-cons h) (λ k. try-is s
         ap (λ (o : Option (List Pair)). orNext o f (tryEach step f ds)) (ap step (sym k) ∙ g .1)
         ∙ ap (λ (b : Bool). b || tryEach step f ds) (g .2)
     go (inr k) ih = later (step x) (ih k)
+
+try-tells : (step : ℕ → Option (List Pair)) (f : List Pair → Bool) (ds : List ℕ) → tryEach step f ds ≡ true → (d : ℕ) × List·Memᴰ d ds × Goes step f d
+try-tells step f [] h = absurd (false≢true h)
+try-tells step f (d ∷ ds) h = go (step d) refl h (try-tells step f ds)
+  where
+    go : (o : Option (List Pair)) → step d ≡ o → orNext o f (tryEach step f ds) ≡ true → (tryEach step f ds ≡ true → (e : ℕ) × List·Memᴰ e ds × Goes step f e)
+        → (e : ℕ) × List·Memᴰ e (d ∷ ds) × Goes step f e
+    go none e k ih = let r : (x : ℕ) × List·Memᴰ x ds × Goes step f x = ih k in (r .0, List·Memᴰ·tail (r .1), r .2)
+    go (some row) e k ih = by (either (f row) (tryEach step f ds) k)
+      where
+        by : (f row ≡ true) ⊎ (tryEach step f ds ≡ true) → (x : ℕ) × List·Memᴰ x (d ∷ ds) × Goes step f x
+        by (inl l) = (d, List·Memᴰ·head refl, (row, e, l))
+        by (inr l) = let r : (x : ℕ) × List·Memᴰ x ds × Goes step f x = ih l in (r .0, List·Memᴰ·tail (r .1), r .2)
 
 -- ---- the search, by one word for all pairs
 module _ (S E : Automaton ℕ) where
