@@ -1,0 +1,4 @@
+pub mod Answers
+pub mod Scan
+pub mod Judging
+pub mod Gates
