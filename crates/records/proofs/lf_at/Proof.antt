@@ -1,0 +1,19 @@
+-- Each field is the number at its place. Assumes nothing.
+use borrow.Author.Needs.{needs, sfits-of}
+use Rattle.fields.proofs.Kept.{bits-kept}
+use Rattle.records.specs.Read.{lfRead}
+use Rattle.records.proofs.lf_at.Statement.{statement}
+use Rattle.records.proofs.lf_at.Tie as tie
+
+returns : tie.Need-returns
+unfolding lfRead
+returns c =
+    cc (
+      bits-kept (c .i32-at4 .result) (sfits-of (c .i32-at4 .ok)),
+      bits-kept (c .before .i32-at3 .result) (sfits-of (c .before .i32-at3 .ok)),
+      bits-kept (c .before .before .i32-at2 .result) (sfits-of (c .before .before .i32-at2 .ok)),
+      bits-kept (c .before .before .before .i32-at .result) (sfits-of (c .before .before .before .i32-at .ok)),
+    )
+
+pub lf-at-spec : {M : Type 1} → statement M
+lf-at-spec = tie.close (tie.spec (λ c. search needs) (λ c κs. search needs) (λ c. search needs) (λ c κs. search needs) (λ c. search needs) (λ c κs. search needs) (λ c. search needs) (λ c κs. search needs) (λ c. search needs) (λ c κs. search needs) (λ c. search needs) (λ c κs. search needs) returns)
