@@ -57,8 +57,12 @@ fn read_as_set(file: &[u8], states: u16, source: u8) {
     print_set(setfile::read_set(file, bounds, source));
 }
 
-// The digit in a name, as a number of qubits.
-fn qubits(digit: u8) -> u8 {
+// The digit at a place of a name, as a number of qubits; 0 where there is none.
+fn qubits(name: &[u8], at: usize) -> u8 {
+    if name.len() <= at {
+        return 0;
+    }
+    let digit = name[at];
     if digit < 48 {
         return 0;
     }
@@ -67,15 +71,15 @@ fn qubits(digit: u8) -> u8 {
 
 // A file by the first letter of its name: s, e, g or o.
 fn answer(name: &[u8], file: &[u8]) {
-    if name.len() < 7 {
+    if name.len() == 0 {
         return;
     }
     let kind = name[0];
     match kind {
         115 => read_as_set(file, 1024, 1),
         101 => read_as_set(file, 128, 3),
-        103 => print_circuit(circuits::read_circuit(file, qubits(name[6]))),
-        111 => print_circuit(circuits::read_one(file, qubits(name[4]))),
+        103 => print_circuit(circuits::read_circuit(file, qubits(name, 6))),
+        111 => print_circuit(circuits::read_one(file, qubits(name, 4))),
         _ => {}
     }
 }
