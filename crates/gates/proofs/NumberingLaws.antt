@@ -83,26 +83,26 @@ module _ {K : Type 0} (eq : K → K → Bool) (same : (x : K) → eq x x ≡ tru
       go true h = refl
       go false h = h
 
-  mention-keeps : (k : K) (ks : List K) (l : K) → isIn eq k ks ≡ true → isIn eq k (mention eq ks l) ≡ true
+  pub mention-keeps : (k : K) (ks : List K) (l : K) → isIn eq k ks ≡ true → isIn eq k (mention eq ks l) ≡ true
   mention-keeps k ks l h = go (isIn eq l ks)
     where
       go : (b : Bool) → isIn eq k (cond b ks (ks ++ (l ∷ []))) ≡ true
       go true = h
       go false = in-append k ks (l ∷ []) h
 
-  mention-has : (ks : List K) (l : K) → isIn eq l (mention eq ks l) ≡ true
+  pub mention-has : (ks : List K) (l : K) → isIn eq l (mention eq ks l) ≡ true
   mention-has ks l = go (isIn eq l ks) refl
     where
       go : (b : Bool) → isIn eq l ks ≡ b → isIn eq l (cond b ks (ks ++ (l ∷ []))) ≡ true
       go true e = e
       go false e = in-last l ks
 
-  mentions-keeps : (k : K) (us : List (Alt (K × K))) (ks : List K) → isIn eq k ks ≡ true → isIn eq k (mentions eq ks us) ≡ true
+  pub mentions-keeps : (k : K) (us : List (Alt (K × K))) (ks : List K) → isIn eq k ks ≡ true → isIn eq k (mentions eq ks us) ≡ true
   mentions-keeps k [] ks h = h
   mentions-keeps k (alt m p ∷ us) ks h =
       mentions-keeps k us (mention eq (mention eq ks (p .0)) (p .1)) (mention-keeps k (mention eq ks (p .0)) (p .1) (mention-keeps k ks (p .0) h))
 
-  all-keeps : (f : K → List (Alt (K × K))) (k : K) (xs ks : List K) → isIn eq k ks ≡ true → isIn eq k (mentionAll eq f ks xs) ≡ true
+  pub all-keeps : (f : K → List (Alt (K × K))) (k : K) (xs ks : List K) → isIn eq k ks ≡ true → isIn eq k (mentionAll eq f ks xs) ≡ true
   all-keeps f k [] ks h = h
   all-keeps f k (x ∷ xs) ks h = all-keeps f k xs (mentions eq ks (f x)) (mentions-keeps k (f x) ks h)
 

@@ -25,7 +25,7 @@ use Rattle.gates.proofs.Demand2.{keyed-moves, keyed-ends}
 
 -- ---- what is taken, through a map and through two states together
 module _ {X Y : Type 0} (P : X → Type 0) (Q : Y → Type 0) (f : X → Y) (h : (x : X) → P x → Q (f x)) where
-  taken-map : (us : List (Alt X)) → Taken P us → Taken Q (mapAlt f us)
+  pub taken-map : (us : List (Alt X)) → Taken P us → Taken Q (mapAlt f us)
   taken-map [] t = tt
   taken-map (alt m x ∷ us) t = (h x (t .0), taken-map us (t .1))
 
@@ -59,7 +59,7 @@ module _ {X Y Z : Type 0} (P : X → Type 0) (Q : Y → Type 0) (R : Z → Type 
   taken-meets [] vs p t = tt
   taken-meets (alt m x ∷ us) vs p t = taken-front m x vs (meets f us vs) (p .0) t (taken-meets us vs (p .1) t)
 
-  taken-together : (us : List (Alt X)) (vs : List (Alt Y)) → Taken P us → Taken Q vs → Taken R (together f us vs)
+  pub taken-together : (us : List (Alt X)) (vs : List (Alt Y)) → Taken P us → Taken Q vs → Taken R (together f us vs)
   taken-together us vs p t = taken-sorted R (meets f us vs) (taken-meets us vs p t)
 
 -- ---- what a state is

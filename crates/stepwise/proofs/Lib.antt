@@ -1,0 +1,4 @@
+pub mod GrowLaws
+pub mod CodeLaws
+pub mod MeetLaws
+pub mod StoredLaws
