@@ -54,7 +54,7 @@ abbrev pub sideTag : Side → ℕ
 sideTag L = 2
 sideTag R = 3
 
-unfoldable pub stored : Key → ℕ
+abbrev pub stored : Key → ℕ
 stored (plain q) = packed 0 q 0
 stored (inside q) = packed 1 q 0
 stored (pair q p s) = packed (sideTag s) q p

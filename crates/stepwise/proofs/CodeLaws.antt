@@ -28,7 +28,7 @@ digits t q p h k =
     (ap (λ (x : ℕ). x / 65536) e ∙ omega arith, ap (λ (x : ℕ). x % 65536) e ∙ omega arith, omega arith)
 
 pub unstored-stored : (x : Key) → Narrow x → unstored (stored x) ≡ x
-unfolding unstored stored
+unfolding unstored
 unstored-stored (plain q) h = let d = digits 0 q 0 (h .first) (h .second) in rw (d .0, d .1)
 unstored-stored (inside q) h = let d = digits 1 q 0 (h .first) (h .second) in rw (d .0, d .1)
 unstored-stored (pair q p L) h = let d = digits 2 q p (h .first) (h .second) in rw (d .0, d .1, d .2)

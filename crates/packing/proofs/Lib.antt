@@ -1,0 +1,5 @@
+pub mod Twos
+pub mod Front
+pub mod Rows
+pub mod File
+pub mod Packed
