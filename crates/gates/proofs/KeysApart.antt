@@ -28,7 +28,6 @@ secondOf (pair q p s) = p
 secondOf (shifted j q) = 0
 
 stored-is : (x : Key) → stored x ≡ packed (tagOf x) (firstOf x) (secondOf x)
-
 stored-is (plain q) = refl
 stored-is (inside q) = refl
 stored-is (pair q p s) = refl

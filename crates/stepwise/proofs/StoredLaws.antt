@@ -88,9 +88,10 @@ module _ (A : Automaton ℕ) (small : (i q : ℕ) → Taken Small (A .moves i q)
   thin-moves i (pair q p s) h = taken-together Small Small Thin (pairKids (role g i) s) (thin-pair (role g i) s) (A .moves i q) (A .moves i p) (small i q) (small i p)
 
   pub number-stored : (n i s : ℕ) (ks : List Key) → Each Narrow ks → number eqb (coded g A) i n s (map stored ks) ≡ number sameKey (keyed g A) i n s ks
-  number-stored =
-      number-code sameKey eqb stored (keyed g A) (coded g A) Narrow
-      (λ i x h. ap (λ (y : Key). mapAlt storedTwo (keyed g A .moves i y)) (unstored-stored x h)) (λ x h. ap (keyed g A .ends) (unstored-stored x h)) thin-moves stored-same
+  number-stored n i s ks h =
+      number-code sameKey eqb stored (keyed g A) (coded g A) (λ j. Narrow) (i + n)
+      (λ j x l k. ap (λ (y : Key). mapAlt storedTwo (keyed g A .moves j y)) (unstored-stored x k)) (λ x k. ap (keyed g A .ends) (unstored-stored x k))
+      (λ j x l k. thin-moves j x k) (λ j. stored-same) n i s ks refl h
 
 -- ---- of a well-formed set
 abbrev kidsOf : TR → ℕ × ℕ
