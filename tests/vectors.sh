@@ -4,7 +4,7 @@ set -u
 cd "$(dirname "$0")/.."
 out=$(mktemp -d)
 trap 'rm -rf "$out"' EXIT
-python3 tests/reference/vectors.py "$out" || exit 1
+PYTHONDONTWRITEBYTECODE=1 python3 tests/reference/vectors.py "$out" || exit 1
 for crate in vectors mutations; do
   for part in args stdout data; do
     diff -r "$out/$crate/$part" "crates/$crate/$part" || exit 1

@@ -1,1 +1,4 @@
 pub mod Table
+pub mod States
+pub mod Unpack
+pub mod Ready

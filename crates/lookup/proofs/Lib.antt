@@ -1,0 +1,4 @@
+pub mod Turns
+pub mod OwnRows
+pub mod Unions
+pub mod Finding

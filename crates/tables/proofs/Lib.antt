@@ -1,0 +1,10 @@
+pub mod Stores
+pub mod Rows
+pub mod Leaves
+pub mod Fill
+pub mod Beginnings
+pub mod Listed
+pub mod TableLaws
+pub mod Unpacking
+pub mod Ordered
+pub mod Readiness
