@@ -1,0 +1,4 @@
+pub mod PlaceLaws
+pub mod ChainLaws
+pub mod Walk
+pub mod MentionLaws
