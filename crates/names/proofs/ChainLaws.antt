@@ -66,14 +66,16 @@ module _ (size b : ℕ) (keys : List ℕ) where
   last-set i key zero h = refl
   last-set i key (suc n) h = rw (getD-set-other keys i n key 0 (λ q. omega arith), last-set i key n (omega arith))
 
--- with no key mentioned, empty chains are right
-pub begun : (keys link : List ℕ) (size : ℕ) → 0 < size → Chained keys link (replicate size 0) 0
+-- with no key mentioned, empty chains are right: what `begin` leaves
+pub begun : (keys link heads : List ℕ) (size : ℕ) → 0 < size → heads ≡ replicate size 0 → Chained keys link heads 0
 unfolding lastWith
-begun keys link size h = record {
-  starts = λ b l. getD-replicate size b 0 0 (rw length-replicate at l);
-  goes = λ j l. absurd (omega arith);
-  apart = λ i j k l. absurd (omega arith);
-  named = omega arith;
-  linked = omega arith;
-  buckets = rw length-replicate h;
-}
+begun keys link heads size h e =
+    rw e
+    record {
+      starts = λ b l. getD-replicate size b 0 0 (rw length-replicate at l);
+      goes = λ j l. absurd (omega arith);
+      apart = λ i j k l. absurd (omega arith);
+      named = omega arith;
+      linked = omega arith;
+      buckets = rw length-replicate h;
+    }
