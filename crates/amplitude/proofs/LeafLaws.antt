@@ -1,8 +1,8 @@
 -- Laws of leaves: the few that the matrices need. The k of a sum is the greater one, and raising an amplitude commutes with all else. Assumes nothing.
 use mathlib.Core.Path.{_≡_, refl, sym, ap, _∙_}
-use Prim.Native.Nat.{ℕ, zero, suc, _+_, _-_, max}
+use Prim.Native.Nat.{ℕ, suc, _+_, _-_, max}
 use native.Mathlib.Omega.{arith}
-use Rattle.amplitude.specs.Amp.{Amp, amp, _⊕_, ω^, √2^, 0A}
+use Rattle.amplitude.specs.Amp.{Amp, _⊕_, √2^}
 use Rattle.amplitude.specs.Leaf.{Leaf, leaf, 0L, plus, minus, turn, over√2}
 use Rattle.amplitude.proofs.RingLaws.{0⊕, ⊕0, ω^-plus, ω^8, ⊖-is, √2^-ω^, √2^-zero}
 

@@ -1,5 +1,5 @@
 -- Document 01, "Amplitudes": a + bω + cω² + dω³ over unlimited whole numbers, with ω⁴ = −1.
-use mathlib.Core.Bool.{Bool, true, false, _&&_}
+use mathlib.Core.Bool.{Bool, false, _&&_}
 use Prim.Native.Nat.{ℕ, zero, suc}
 use lib.IntN.{ℤ, pos, negsuc, natAbs, negℤ, _+ℤ_, _-ℤ_}
 use lib.Dec.{eqb, leb}

@@ -1,16 +1,15 @@
 -- Members are exactly the roots and words with a tree, each once, strictly in order; so two sets with trees at the same places have the same
 -- members. Assumes nothing.
-use mathlib.Core.Path.{_≡_, refl, sym, ap, _∙_, subst}
+use mathlib.Core.Path.{_≡_, refl, sym, _∙_, subst}
 use mathlib.Core.Bool.{Bool, true, false, _&&_}
 use mathlib.Core.Logic.{_⊎_, inl, inr}
 use mathlib.Core.List.{List, [], _∷_, map, List·Memᴰ}
-use mathlib.Core.Option.{Option, none, some}
 use Prim.Native.Nat.{ℕ, _<_}
 use native.Mathlib.Omega.{arith}
 use Rattle.automata.specs.Sets.{QSet, automatonOf, roots, tree}
 use Rattle.automata.specs.Members.{Member, member, runs, members, words, upTo}
-use Rattle.automata.proofs.Lists.{flat-mem, flat-inv, map-mem, map-inv, upTo-mem, upTo-inv, Each, Strictly, strict-flat, strict-map, strict-same, each-mapped}
-use Rattle.automata.proofs.Words.{isSome, Word, Earlier, earlier-asym, allTrees, listed, told, in-order}
+use Rattle.automata.proofs.Lists.{flat-mem, flat-inv, map-mem, map-inv, upTo-mem, upTo-inv, Strictly, strict-flat, strict-map, strict-same, each-mapped}
+use Rattle.automata.proofs.Words.{isSome, Word, Earlier, earlier-asym, listed, told, in-order}
 
 -- "Members are ordered by root, then by word"
 abbrev pub Before : Member → Member → Type 0

@@ -8,7 +8,7 @@ use lib.Dec.{eqb, ltb}
 use lib.Bits.{bitAnd, and-le-l}
 use borrow.Author.Tests.{eqb-false, ltb-true, ltb-false}
 use Rattle.automata.specs.Choice.{least, Alt, alt, insert, sorted, mapAlt, meetOne, meets, together}
-use Rattle.automata.proofs.Masks.{Never, Mask, least-apart}
+use Rattle.automata.proofs.Masks.{Mask, least-apart}
 use Rattle.automata.proofs.Choosing.{Apart, Disjoint, disjoint-meets, apart-sorted}
 
 module _ {X : Type 0} where

@@ -9,16 +9,16 @@ use lib.ListN.{length}
 use Rattle.amplitude.specs.Leaf.{Leaf}
 use Rattle.automata.specs.Choice.{Alt, alt, mapAlt}
 use Rattle.automata.specs.Tree.{Automaton}
-use Rattle.automata.specs.Sets.{Rec, rec, TR, LF, levelIn}
+use Rattle.automata.specs.Sets.{rec, TR, LF, levelIn}
 use Rattle.automata.proofs.Masks.{Mask}
 use Rattle.automata.proofs.Choosing.{disjoint-map}
 use Rattle.automata.proofs.Order.{masked-map, rising-map}
 use Rattle.automata.proofs.Lists.{Each, Strictly, each-map, each-append}
 use Rattle.stored.proofs.OrderLaws.{Follows}
 use Rattle.stored.proofs.Levels.{level-first, level-later}
-use Rattle.gates.specs.Numbering.{allRows, isIn, mention, mentions, mentionAll, place, placed, number}
+use Rattle.gates.specs.Numbering.{allRows, isIn, mention, mentions, mentionAll, placed, number}
 use Rattle.gates.proofs.NumberingLaws.{Mentioned, covered, place-lt}
-use Rattle.gates.proofs.BuildShape.{Taken, stateIn, Row, RowOf, Fine, all-each, all-strict, strict-join, rows-below}
+use Rattle.gates.proofs.BuildShape.{Taken, stateIn, RowOf, Fine, all-each, all-strict, strict-join, rows-below}
 
 -- a TR record among levels that begin with level i and number s, n qubits from there on
 pub record StandsTR (i s n : ℕ) (cs : List ℕ) (q m l r : ℕ) : Type 0 where

@@ -1,27 +1,23 @@
 -- The shape of what a gate builds: each level's records name states of that level and of the next, in rising order, with masks of 32 bits.
 -- It holds of any automaton whose alternatives rise and share no choice, over the states that are mentioned. Assumes nothing.
-use mathlib.Core.Path.{_≡_, refl, sym, ap, _∙_, subst}
-use mathlib.Core.Bool.{Bool, true, false, cond, _&&_, _||_, false≢true}
-use mathlib.Core.Logic.{_⊎_, inl, inr}
-use mathlib.Core.List.{List, [], _∷_, _++_, map}
-use Prim.Native.Nat.{ℕ, zero, suc, _+_, _-_, _^_, _<_, _≤_}
+use mathlib.Core.Path.{_≡_, refl, subst}
+use mathlib.Core.Bool.{Bool, true, false}
+use mathlib.Core.Logic.{inl, inr}
+use mathlib.Core.List.{List, [], _∷_, _++_}
+use Prim.Native.Nat.{ℕ, suc, _+_, _^_, _<_, _≤_}
 use native.Mathlib.Omega.{arith}
 use lib.Dec.{eqb}
 use lib.ListN.{length}
 use lib.Bits.{bitAnd, and-le-l}
 use borrow.Author.Tests.{eqb-true, eqb-false}
-use Rattle.amplitude.specs.Leaf.{Leaf}
-use Rattle.automata.specs.Choice.{has, least, Alt, alt, mapAlt}
-use Rattle.automata.specs.Tree.{Automaton}
-use Rattle.automata.specs.Sets.{Rec, rec, TR, LF, levelIn}
+use Rattle.automata.specs.Choice.{least, Alt, alt}
+use Rattle.automata.specs.Sets.{Rec, rec}
 use Rattle.automata.proofs.Masks.{Never, Mask, has-and, least-in}
-use Rattle.automata.proofs.Choosing.{Apart, Disjoint, disjoint-map}
-use Rattle.automata.proofs.Order.{Masked, Above, Rising, masked-map, rising-map}
+use Rattle.automata.proofs.Choosing.{Apart, Disjoint}
+use Rattle.automata.proofs.Order.{Masked, Above, Rising}
 use Rattle.automata.proofs.Lists.{Each, Strictly, each-map, each-append}
-use Rattle.stored.proofs.OrderLaws.{Sibling, Follows}
-use Rattle.stored.proofs.Levels.{level-first, level-later}
-use Rattle.gates.specs.Numbering.{rows, allRows, isIn, mention, mentions, mentionAll, place, placed, number}
-use Rattle.gates.proofs.NumberingLaws.{Mentioned, covered}
+use Rattle.stored.proofs.OrderLaws.{Follows}
+use Rattle.gates.specs.Numbering.{rows, allRows}
 
 -- masks with no choice in common do not meet
 pub meet-none : (m m′ : ℕ) → m < 2 ^ 32 → Never m m′ → bitAnd m m′ ≡ 0

@@ -1,15 +1,13 @@
 -- Demand 2 for a circuit of which no gate is refused: the matrices one after the other, the same members, and a well-formed set. Assumes nothing.
 use mathlib.Core.Path.{_≡_, refl, sym, ap, _∙_, subst}
-use mathlib.Core.Bool.{Bool}
 use mathlib.Core.List.{List, [], _∷_}
-use mathlib.Core.Option.{Option, none, some}
 use Prim.Native.Nat.{ℕ, suc, _<_}
 use native.Mathlib.Omega.{arith}
 use Rattle.automata.specs.Choice.{mapO}
-use Rattle.automata.specs.Tree.{Tree, treeOf}
+use Rattle.automata.specs.Tree.{treeOf}
 use Rattle.automata.specs.Sets.{QSet, automatonOf, tree, roots}
-use Rattle.automata.specs.Members.{Member, runs}
-use Rattle.stored.specs.Refusal.{Refusal, Judged, refused, good, onGood}
+use Rattle.automata.specs.Members.{runs}
+use Rattle.stored.specs.Refusal.{Judged, refused, good, onGood}
 use Rattle.stored.specs.Rules.{Bounds}
 use Rattle.stored.proofs.WellFormed.{WellFormed}
 use Rattle.stored.proofs.Reading.{good-same}
@@ -18,7 +16,7 @@ use Rattle.gates.specs.Matrix.{gateMatrix, carried}
 use Rattle.gates.specs.Build.{built}
 use Rattle.gates.specs.Refuse.{judgeGate, afterGates}
 use Rattle.gates.proofs.Options.{map-same, map-map}
-use Rattle.gates.proofs.Fits.{Fits, AllFit}
+use Rattle.gates.proofs.Fits.{AllFit}
 use Rattle.gates.proofs.Demand2.{demand2, members-kept, roots-kept, n-kept}
 use Rattle.gates.proofs.WellBuilt.{valid, judged-gate, gate-formed}
 

@@ -1,18 +1,18 @@
 -- CX with the control below the target does what its matrix does. Below the target L alone walks only the left state's zeros and the right
 -- state's ones, and R the others, so both are taken together; they change partners at the control. Assumes nothing.
-use mathlib.Core.Path.{_≡_, refl, sym, ap, ap₂, _∙_, subst}
+use mathlib.Core.Path.{_≡_, refl, sym, ap, ap₂, _∙_}
 use mathlib.Core.Bool.{Bool, true, false, cond}
 use mathlib.Core.List.{List, [], _∷_}
 use mathlib.Core.Option.{Option, none, some}
 use Prim.Native.Nat.{ℕ, zero, suc, _+_, _<_, _≤_}
 use native.Mathlib.Omega.{arith}
-use lib.Dec.{eqb, ltb}
-use borrow.Author.Tests.{eq-eqb, ne-eqb, le-ltb, eqb-true, eqb-false}
+use lib.Dec.{eqb}
+use borrow.Author.Tests.{ne-eqb, le-ltb, eqb-true, eqb-false}
 use Rattle.automata.specs.Choice.{choose, mapO, zipO}
 use Rattle.automata.specs.Tree.{Tree, Automaton, treeOf, node, andThen}
 use Rattle.automata.proofs.Choosing.{Disjoint, choose-together}
-use Rattle.gates.specs.Gate.{Kind, flip, H, Gate}
-use Rattle.gates.specs.Matrix.{kindMatrix, row, applyAt, select, effect}
+use Rattle.gates.specs.Gate.{flip, H, Gate}
+use Rattle.gates.specs.Matrix.{select, effect}
 use Rattle.gates.specs.Key.{Side, L, R, Key, plain, pair}
 use Rattle.gates.specs.Roles.{Role, pass, cross, act, role, plainKids, pairKids, keyed}
 use Rattle.gates.proofs.Options.{map-map, map-ext, node-map, regroup, crossover, step-map}

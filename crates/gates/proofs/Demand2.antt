@@ -1,7 +1,7 @@
 -- Demand 2: for every root and every word the set that a gate builds has a tree exactly if the old one had, and it is the gate's matrix
 -- applied to the old one; so too for a circuit, and the result has the same members. Assumes nothing.
 use mathlib.Core.Path.{_≡_, refl, sym, ap, ap₂, _∙_, subst}
-use mathlib.Core.Bool.{Bool, true, false, cond, _&&_, _||_, false≢true}
+use mathlib.Core.Bool.{Bool, true, false, cond, _||_, false≢true}
 use mathlib.Core.List.{List, [], _∷_, _++_, map}
 use mathlib.Core.Option.{Option, none, some}
 use Prim.Native.Nat.{ℕ, zero, suc, _+_, _-_, _<_, _≤_}
@@ -9,26 +9,25 @@ use native.Mathlib.Omega.{arith}
 use lib.Dec.{eqb, ltb}
 use lib.ListN.{length}
 use borrow.Author.Tests.{eq-eqb, eqb-true, eqb-false, ltb-true, ltb-false}
-use Rattle.amplitude.specs.Leaf.{Leaf, turn}
+use Rattle.amplitude.specs.Leaf.{turn}
 use Rattle.amplitude.proofs.Equal.{both}
-use Rattle.automata.specs.Choice.{Alt, alt, mapO, mapAlt}
-use Rattle.automata.specs.Tree.{Tree, Automaton, treeOf}
-use Rattle.automata.specs.Sets.{Rec, rec, TR, QSet, own, automatonOf, tree, roots, rootsIn}
+use Rattle.automata.specs.Choice.{Alt, mapO, mapAlt}
+use Rattle.automata.specs.Tree.{Automaton, treeOf}
+use Rattle.automata.specs.Sets.{TR, QSet, own, automatonOf, tree, roots, rootsIn}
 use Rattle.automata.specs.Members.{upTo, runs}
 use Rattle.automata.proofs.Choosing.{Disjoint, disjoint-map, disjoint-together}
 use Rattle.automata.proofs.Words.{isSome}
 use Rattle.automata.proofs.MemberLaws.{same-runs}
 use Rattle.gates.specs.Gate.{Gate}
-use Rattle.gates.specs.Matrix.{gateMatrix, carried}
+use Rattle.gates.specs.Matrix.{gateMatrix}
 use Rattle.gates.specs.Key.{Side, L, R, Key, plain, shifted, inside, pair, sameSide, sameKey}
 use Rattle.gates.specs.Roles.{role, plainKids, insideKids, pairKids, pairEnd, keyed}
 use Rattle.gates.specs.Numbering.{rows, allRows, isIn, mentionAll, place, placed, number}
-use Rattle.gates.specs.Build.{rootKeys, buildOf, built}
-use Rattle.gates.proofs.Options.{map-same, map-map}
+use Rattle.gates.specs.Build.{rootKeys, built}
 use Rattle.gates.proofs.Keyed.{alone-tree, above-tree}
 use Rattle.gates.proofs.Crossed.{below-tree}
 use Rattle.gates.proofs.NumberingLaws.{number-tree, own-append, rows-same, rows-other, all-before, all-after, from-number, append-nil}
-use Rattle.gates.proofs.Fits.{Fits, fits-plain, fits-above, fits-below, AllFit}
+use Rattle.gates.proofs.Fits.{Fits, fits-plain, fits-above, fits-below}
 
 -- ---- keys: the test tells apart kind, tag and both numbers, and nothing else
 side-sound : (s s′ : Side) → sameSide s s′ ≡ true → s ≡ s′

@@ -1,15 +1,15 @@
 -- The gates that a circuit's records give fit n qubits: CZ has the smaller qubit as its control, and only X has its control below. Assumes nothing.
-use mathlib.Core.Path.{_≡_, refl, sym, ap, _∙_, subst}
-use mathlib.Core.Bool.{Bool, true, false, cond, _&&_, not, false≢true}
+use mathlib.Core.Path.{_≡_, refl, subst}
+use mathlib.Core.Bool.{Bool, true, false, cond, _&&_, not}
 use mathlib.Core.List.{List, [], _∷_}
 use mathlib.Core.Option.{Option, none, some}
 use Prim.Native.Nat.{ℕ, zero, suc, _+_, _/_, _%_, _<_, _≤_, min, max}
 use native.Mathlib.Omega.{arith}
 use lib.ListN.{length, getD}
 use lib.Dec.{eqb, leb, ltb}
-use borrow.Author.Tests.{eqb-true, eqb-false, leb-true, not-true, ltb-true, ltb-false}
+use borrow.Author.Tests.{eqb-false, leb-true, not-true, ltb-true, ltb-false}
 use Rattle.amplitude.proofs.Equal.{both}
-use Rattle.stored.specs.Refusal.{Judged, good, refused, need, refusal, circuitSource}
+use Rattle.stored.specs.Refusal.{good, refusal, circuitSource}
 use Rattle.stored.specs.Fields.{markAt, recordsFrom}
 use Rattle.stored.specs.Rules.{passes, firstBad}
 use Rattle.stored.proofs.Reading.{need-good, good-same}

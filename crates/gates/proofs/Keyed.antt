@@ -4,16 +4,16 @@ use mathlib.Core.Path.{_≡_, refl, sym, ap, ap₂, _∙_, subst}
 use mathlib.Core.Bool.{Bool, true, false, cond}
 use mathlib.Core.List.{List, [], _∷_}
 use mathlib.Core.Option.{Option, none, some}
-use Prim.Native.Nat.{ℕ, zero, suc, _+_, _<_, _≤_}
+use Prim.Native.Nat.{ℕ, zero, suc, _<_, _≤_}
 use native.Mathlib.Omega.{arith}
-use lib.Dec.{eqb, ltb}
+use lib.Dec.{eqb}
 use borrow.Author.Tests.{eq-eqb, ne-eqb, lt-ltb, eqb-true, eqb-false}
-use Rattle.amplitude.specs.Leaf.{Leaf, turn}
-use Rattle.automata.specs.Choice.{Alt, choose, mapO, zipO, mapAlt, together}
+use Rattle.amplitude.specs.Leaf.{turn}
+use Rattle.automata.specs.Choice.{Alt, choose, mapO, zipO, mapAlt}
 use Rattle.automata.specs.Tree.{Tree, Automaton, treeOf, node, andThen, mapT, zipT}
 use Rattle.automata.proofs.Choosing.{Disjoint, choose-map, choose-together}
 use Rattle.gates.specs.Gate.{Kind, phase, flip, H, Gate}
-use Rattle.gates.specs.Matrix.{Matrix, kindMatrix, row, applyAt, select, effect, back}
+use Rattle.gates.specs.Matrix.{Matrix, kindMatrix, row, applyAt, effect, back}
 use Rattle.gates.specs.Key.{Side, L, R, Key, plain, shifted, inside, pair, turned}
 use Rattle.gates.specs.Roles.{Role, pass, begin, act, within, role, kindKids, plainKids, insideKids, pairKids, bothKids, pairEnd, keyed}
 use Rattle.gates.proofs.Options.{map-same, map-ext, node-map, zip-node, step-map, step-together}

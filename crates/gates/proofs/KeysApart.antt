@@ -1,7 +1,7 @@
 -- Keys as they are stored tell apart every kind, tag and both numbers below 65,536: each is a digit of its own in radix 65,536, so pairs past
 -- 16,777,216 stay apart too. Assumes nothing.
-use mathlib.Core.Path.{_≡_, refl, ap, ap₂, _∙_}
-use Prim.Native.Nat.{ℕ, _+_, _*_, _<_}
+use mathlib.Core.Path.{_≡_, refl, ap}
+use Prim.Native.Nat.{ℕ, _+_, _<_}
 use native.Mathlib.Omega.{arith}
 use Rattle.gates.specs.Key.{Side, L, R, Key, plain, shifted, inside, pair, radix, packed, sideTag, stored}
 

@@ -1,16 +1,14 @@
 -- Laws of the matrices on trees: a row with a zero entry turns one side only, and what stands past the target or the controls stays. Assumes nothing.
 use mathlib.Core.Path.{_≡_, refl, sym, ap, ap₂, _∙_}
-use mathlib.Core.Bool.{Bool, true, false, cond, _||_}
 use mathlib.Core.List.{List, [], _∷_, _++_}
-use Prim.Native.Nat.{ℕ, zero, suc, _<_, _≤_}
+use Prim.Native.Nat.{ℕ, zero, suc, _<_}
 use native.Mathlib.Omega.{arith}
-use lib.Dec.{eqb}
 use borrow.Author.Tests.{ne-eqb}
-use Rattle.amplitude.specs.Leaf.{Leaf, plus, minus, turn, over√2}
+use Rattle.amplitude.specs.Leaf.{Leaf, plus, turn, over√2}
 use Rattle.amplitude.proofs.LeafLaws.{0-left, 0-right, over-plus, minus-is, turn-none}
 use Rattle.automata.specs.Tree.{Tree, mapT, zipT}
 use Rattle.gates.specs.Gate.{Gate}
-use Rattle.gates.specs.Matrix.{Entry, O, W, W/√2, Matrix, row, applyAt, among, select, carried, gateMatrix}
+use Rattle.gates.specs.Matrix.{O, W, row, select, carried, gateMatrix}
 use Rattle.gates.specs.Key.{L, R}
 use Rattle.gates.specs.Roles.{pairEnd}
 

@@ -3,7 +3,7 @@
 use mathlib.Core.Path.{_≡_, refl, sym, ap, ap₂, _∙_, subst}
 use mathlib.Core.Bool.{Bool, true, false, cond, _||_, false≢true}
 use mathlib.Core.List.{List, [], _∷_, _++_, append-assoc}
-use mathlib.Core.Option.{Option, none, some}
+use mathlib.Core.Option.{Option, some}
 use Prim.Native.Nat.{ℕ, zero, suc, _+_, _<_, _≤_}
 use native.Mathlib.Nat.{add-zero, add-suc, suc-add}
 use native.Mathlib.Omega.{arith}
@@ -11,9 +11,9 @@ use lib.Dec.{eqb}
 use lib.ListN.{length}
 use borrow.Author.Tests.{eq-eqb, ne-eqb}
 use Rattle.automata.specs.Choice.{Alt, alt, has, choose, mapAlt}
-use Rattle.automata.specs.Tree.{Tree, Automaton, treeOf, node, andThen}
+use Rattle.automata.specs.Tree.{Automaton, treeOf, node, andThen}
 use Rattle.automata.specs.Sets.{Rec, rec, TR, LF, own, automaton}
-use Rattle.gates.specs.Numbering.{rows, allRows, Built, isIn, mention, mentions, mentionAll, place, placed, number}
+use Rattle.gates.specs.Numbering.{rows, allRows, isIn, mention, mentions, mentionAll, place, placed, number}
 
 -- ---- records of one state among others
 module _ {X : Type 0} where

@@ -1,27 +1,24 @@
 -- What states stand on each level of a gate's result: pairs below an H's target, pairs between target and control of a CX with its control
 -- below, and else none; so all leaves get the same k, one more under H. Assumes nothing.
-use mathlib.Core.Path.{_≡_, refl, sym, ap, ap₂, _∙_, subst}
+use mathlib.Core.Path.{_≡_, refl, sym, ap, _∙_, subst}
 use mathlib.Core.Bool.{Bool, true, false, cond, _&&_}
 use mathlib.Core.List.{List, [], _∷_, _++_}
-use Prim.Native.Nat.{ℕ, zero, suc, _+_, _<_, _≤_, max}
+use Prim.Native.Nat.{ℕ, zero, suc, _+_, _<_, _≤_}
 use native.Mathlib.Omega.{arith}
 use lib.Dec.{eqb, ltb, leb}
 use lib.Bits.{bitAnd}
-use borrow.Author.Tests.{eq-eqb, ne-eqb, eqb-true, eqb-false, lt-ltb, le-ltb, ltb-true, ltb-false, le-leb, lt-leb, leb-true, leb-false}
+use borrow.Author.Tests.{ne-eqb, eqb-true, eqb-false, lt-ltb, le-ltb, ltb-true, ltb-false, le-leb, lt-leb, leb-true, leb-false}
 use Rattle.amplitude.specs.Leaf.{Leaf, leaf, kOf, turn}
 use Rattle.amplitude.proofs.Equal.{both}
-use Rattle.automata.specs.Choice.{least, Alt, alt, maskOf, mapAlt, insert, sorted, meetOne, meets, together}
+use Rattle.automata.specs.Choice.{least, Alt, alt, mapAlt, insert, sorted, meetOne, meets, together}
 use Rattle.automata.specs.Tree.{Automaton}
-use Rattle.automata.proofs.Choosing.{Disjoint}
-use Rattle.automata.proofs.Order.{Masked, Rising, masked-map, rising-map, masked-together, rising-together}
 use Rattle.gates.specs.Gate.{Kind, phase, flip, H, Gate}
 use Rattle.gates.specs.Matrix.{back}
 use Rattle.gates.specs.Key.{Side, L, R, Key, plain, shifted, inside, pair, turned}
-use Rattle.gates.specs.Roles.{Role, pass, begin, cross, act, within, role, Two, kindKids, plainKids, insideKids, pairKids, bothKids, pairEnd, keyed}
+use Rattle.gates.specs.Roles.{Role, pass, begin, cross, act, within, role, Two, kindKids, plainKids, insideKids, pairKids, pairEnd, keyed}
 use Rattle.gates.specs.Build.{growth}
 use Rattle.gates.proofs.Fits.{Whole, Fits, fits-plain, fits-above, fits-below}
-use Rattle.gates.proofs.BuildShape.{Taken, Fine}
-use Rattle.gates.proofs.Demand2.{keyed-moves, keyed-ends}
+use Rattle.gates.proofs.BuildShape.{Taken}
 
 -- ---- what is taken, through a map and through two states together
 module _ {X Y : Type 0} (P : X → Type 0) (Q : Y → Type 0) (f : X → Y) (h : (x : X) → P x → Q (f x)) where

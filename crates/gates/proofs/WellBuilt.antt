@@ -1,36 +1,35 @@
 -- What an unrefused gate builds is a well-formed set: its bytes pass 1 to 10, are at most 49,248 long, and read back as that set. Assumes nothing.
 use mathlib.Core.Path.{_≡_, refl, sym, ap, _∙_, subst}
-use mathlib.Core.Bool.{Bool, true, false, cond, _&&_}
+use mathlib.Core.Bool.{Bool, true, false, cond}
 use mathlib.Core.List.{List, [], _∷_, map}
 use Prim.Native.Nat.{ℕ, zero, suc, _+_, _-_, _^_, _<_, _≤_}
 use native.Mathlib.Omega.{arith}
 use lib.ListN.{length}
 use lib.Dec.{eqb, leb}
-use borrow.Author.Tests.{eqb-true, leb-true}
+use borrow.Author.Tests.{leb-true}
 use Rattle.amplitude.specs.Leaf.{Leaf, kMost, kOf, turn}
 use Rattle.amplitude.proofs.Equal.{both}
-use Rattle.automata.specs.Choice.{Alt, alt}
+use Rattle.automata.specs.Choice.{alt}
 use Rattle.automata.specs.Tree.{Automaton}
 use Rattle.automata.specs.Sets.{Rec, rec, TR, LF, QSet, sum, own, automatonOf, roots, levelIn}
 use Rattle.automata.specs.Members.{upTo}
 use Rattle.automata.proofs.Masks.{Mask}
-use Rattle.automata.proofs.Choosing.{Disjoint}
 use Rattle.automata.proofs.Order.{Masked, Rising, masked-map, rising-map, masked-together, rising-together}
 use Rattle.automata.proofs.Lists.{Each, Strictly, each-map}
-use Rattle.stored.specs.Refusal.{Judged, good, refusal, circuitSource}
-use Rattle.stored.specs.Rules.{Bounds, setBounds, passes, levelOf, trFault, trsOk, lfOk, lfsOk, ordered, orderOk}
+use Rattle.stored.specs.Refusal.{good, refusal, circuitSource}
+use Rattle.stored.specs.Rules.{Bounds, setBounds, levelOf, trFault, trsOk, lfOk, lfsOk, ordered, orderOk}
 use Rattle.stored.specs.Judge.{judgeSet}
 use Rattle.stored.specs.Pack.{fileOf}
 use Rattle.stored.proofs.ScanLaws.{each-passes, passes-each}
 use Rattle.stored.proofs.OrderLaws.{Follows, strictly-ordered, ordered-strictly, own-good}
-use Rattle.stored.proofs.WellFormed.{Narrow, WellFormed, maskIn, kIn, TrFine, LfFine, FineTR, FineLF, trs-fine, lfs-fine, fine-tr, fine-lf}
+use Rattle.stored.proofs.WellFormed.{Narrow, WellFormed, maskIn, kIn, FineTR, FineLF, trs-fine, lfs-fine, fine-tr, fine-lf}
 use Rattle.stored.proofs.ReadBack.{read-back, at-most}
 use Rattle.stored.proofs.Reading.{need-good, good-same}
 use Rattle.gates.specs.Gate.{Gate}
-use Rattle.gates.specs.Key.{Side, Key, plain, shifted, inside, pair, sameKey}
+use Rattle.gates.specs.Key.{Key, plain, shifted, inside, pair, sameKey}
 use Rattle.gates.specs.Roles.{role, plainKids, insideKids, pairKids, pairEnd, keyed}
-use Rattle.gates.specs.Build.{rootKeys, buildOf, growth, built}
-use Rattle.gates.specs.Refuse.{kFits, sizesFit, leafFits, leavesFit, judgeResult, judgeGate}
+use Rattle.gates.specs.Build.{rootKeys, growth, built}
+use Rattle.gates.specs.Refuse.{kFits, sizesFit, leafFits, leavesFit, judgeGate}
 use Rattle.gates.proofs.Fits.{Fits}
 use Rattle.gates.proofs.BuildShape.{Taken, Fine}
 use Rattle.gates.proofs.BuildLevels.{TRStands, LFStands, counted, stand-tr, stand-lf, strict-tr, strict-lf}

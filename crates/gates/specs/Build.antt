@@ -3,7 +3,7 @@ use mathlib.Core.List.{List, map}
 use Prim.Native.Nat.{ℕ, _+_}
 use Rattle.automata.specs.Sets.{QSet, automatonOf, roots}
 use Rattle.automata.specs.Members.{upTo}
-use Rattle.gates.specs.Gate.{Kind, phase, flip, H, Gate}
+use Rattle.gates.specs.Gate.{phase, flip, H, Gate}
 use Rattle.gates.specs.Key.{Key, plain, sameKey}
 use Rattle.gates.specs.Roles.{keyed}
 use Rattle.gates.specs.Numbering.{Built, number}

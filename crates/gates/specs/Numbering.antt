@@ -1,6 +1,6 @@
 -- Document 01, "What each gate builds": "The result has the roots and just those states that transitions reach from them. .. On each further
 -- level states are numbered by first mention as the level above is read in record order, left first."
-use mathlib.Core.Bool.{Bool, cond, _||_, true, false}
+use mathlib.Core.Bool.{Bool, cond, _||_, false}
 use mathlib.Core.List.{List, [], _∷_, _++_}
 use Prim.Native.Nat.{ℕ, zero, suc, _+_}
 use lib.ListN.{length}

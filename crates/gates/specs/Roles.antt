@@ -1,5 +1,5 @@
 -- Document 01, "What each gate builds": what a gate does at each level, and the automaton of its result, whose states are keys.
-use mathlib.Core.Bool.{Bool, cond}
+use mathlib.Core.Bool.{cond}
 use mathlib.Core.List.{List}
 use Prim.Native.Nat.{ℕ}
 use lib.Dec.{eqb, ltb}

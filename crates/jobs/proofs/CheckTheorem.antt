@@ -1,10 +1,10 @@
 -- Demand 3 as one theorem over the check's whole reply, for every input. `fails` names the first start that does not end well, and its place;
 -- `holds` counts all starts; `undecided` says B; a larger B changes no `holds`, no `fails` and no refusal. Assumes nothing.
-use mathlib.Core.Path.{_≡_, refl, sym, ap, _∙_, subst}
+use mathlib.Core.Path.{_≡_, refl, ap, _∙_, subst}
 use mathlib.Core.Bool.{Bool, true, false, false≢true}
 use mathlib.Core.List.{List, [], _∷_, List·Memᴰ, List·Memᴰ·head, List·Memᴰ·tail}
 use mathlib.Core.Option.{Option, none, some}
-use Prim.Native.Nat.{ℕ, zero, suc, _+_, _<_, _≤_}
+use Prim.Native.Nat.{ℕ, zero, suc, _<_, _≤_}
 use native.Mathlib.Nat.{zero-add}
 use native.Mathlib.Omega.{arith}
 use lib.Dec.{eqb}
@@ -13,27 +13,26 @@ use borrow.Author.Tests.{eqb-true}
 use Rattle.automata.specs.Choice.{mapO}
 use Rattle.automata.specs.Tree.{Tree, treeOf}
 use Rattle.automata.specs.Sets.{QSet, automatonOf, roots, tree}
-use Rattle.automata.specs.Members.{Member, member, runs, members, stateOf}
+use Rattle.automata.specs.Members.{Member, member, members}
 use Rattle.automata.proofs.Lists.{Each}
 use Rattle.automata.proofs.Words.{isSome, Word}
 use Rattle.automata.proofs.MemberLaws.{IsMember, is-member}
-use Rattle.stored.specs.Refusal.{Refusal, Judged, good, need, onGood, refusal, noSource}
+use Rattle.stored.specs.Refusal.{Refusal, Judged, good, refusal, noSource}
 use Rattle.stored.specs.Rules.{setBounds, endBounds}
 use Rattle.stored.specs.Judge.{judgeSet}
 use Rattle.stored.proofs.WellFormed.{WellFormed}
 use Rattle.stored.proofs.Reading.{Bytes, well-formed, need-good, good-same}
-use Rattle.gates.specs.Gate.{Gate}
 use Rattle.gates.specs.Matrix.{carried}
 use Rattle.gates.specs.Circuit.{judgeCircuit}
 use Rattle.gates.specs.Refuse.{afterGates}
-use Rattle.gates.proofs.Fits.{AllFit, circuit-fits}
+use Rattle.gates.proofs.Fits.{circuit-fits}
 use Rattle.gates.proofs.Circuits.{Carries, carries, went}
 use Rattle.verdict.specs.Verdict.{isState, endsWell, Verdict, holds, fails, undecided, examine, verdict}
 use Rattle.verdict.specs.Search.{searched}
 use Rattle.verdict.proofs.Demand3.{Told, told, Final, larger, Equal, is-state, state-is}
 use Rattle.verdict.proofs.Searching.{search-exact}
 use Rattle.jobs.specs.Reply.{Reply, refused, made, says, replyOf}
-use Rattle.jobs.specs.Check.{Ready, ready, together, judgeBy, judgeCheck, answer, checkAnswer}
+use Rattle.jobs.specs.Check.{Ready, ready, judgeBy, judgeCheck, answer, checkAnswer}
 
 -- ---- a start and the end set
 -- the start's tree, carried through the gate matrices, is equal to the tree of some root and word of the end set

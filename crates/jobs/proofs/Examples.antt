@@ -4,15 +4,15 @@ use mathlib.Core.Bool.{Bool, true, false}
 use mathlib.Core.List.{List, [], _∷_, _++_, map}
 use mathlib.Core.Option.{Option, none, some}
 use Prim.Native.Nat.{ℕ}
-use lib.IntN.{ℤ, pos, negsuc}
-use lib.ListN.{length, replicate, take}
+use lib.IntN.{pos, negsuc}
+use lib.ListN.{length}
 use lib.Count.{trailingZeros}
 use Rattle.amplitude.specs.Amp.{Amp, amp, times√2}
 use Rattle.amplitude.specs.Leaf.{Leaf, leaf, same}
 use Rattle.automata.specs.Tree.{Tree, treeOf, leavesOf, sameT}
 use Rattle.automata.specs.Sets.{TR, tr, LF, rec, QSet, automatonOf, tree}
 use Rattle.automata.specs.Members.{Member, member, members}
-use Rattle.stored.specs.Refusal.{Refusal, refusal, Judged}
+use Rattle.stored.specs.Refusal.{Judged}
 use Rattle.stored.specs.Fields.{u16At, u32At, i32At, markAt, recordsFrom, bytes32}
 use Rattle.stored.specs.Form.{formOf, countAt, trAt, lfAt, setOf}
 use Rattle.stored.specs.Rules.{setBounds, headOk, versionOk, rangesOk, countsOk, lengthOk, marksOk, levelsOk, trFault, trsOk, lfOk, lfsOk, ordered, orderOk}
@@ -23,9 +23,9 @@ use Rattle.gates.specs.Circuit.{gateAt, recordsOf, judgeGates, judgeCircuit, ju
 use Rattle.gates.specs.Build.{built}
 use Rattle.gates.specs.Refuse.{judgeGate, afterGates}
 use Rattle.verdict.specs.Verdict.{verdict}
-use Rattle.jobs.specs.Reply.{Reply, made, refused, says}
-use Rattle.jobs.specs.OneGate.{newSet, oneGateLong, oneGateJudged, oneGateReply, oneGateOutput}
-use Rattle.jobs.specs.Check.{judgeBy, judgeCheck, checkAnswer}
+use Rattle.jobs.specs.Reply.{refused}
+use Rattle.jobs.specs.OneGate.{newSet}
+use Rattle.jobs.specs.Check.{judgeBy, judgeCheck}
 use Rattle.jobs.specs.Program.{inputOk, programReply, line, printed}
 
 -- ---- the sets of the examples

@@ -1,9 +1,8 @@
 -- The one-gate job's whole effect where it is not refused: the output begins with a well-formed set of the same roots and members, whose trees
 -- are the gate's matrix applied to the old ones, and the output keeps its length. Assumes nothing.
-use mathlib.Core.Path.{_≡_, refl, sym, ap, _∙_}
-use mathlib.Core.Bool.{Bool, true, false, _&&_}
-use mathlib.Core.List.{List, [], _∷_, _++_}
-use Prim.Native.Nat.{ℕ, _+_, _-_, _<_, _≤_}
+use mathlib.Core.Path.{_≡_, refl, _∙_}
+use mathlib.Core.List.{List}
+use Prim.Native.Nat.{ℕ, _≤_}
 use native.Mathlib.Omega.{arith}
 use lib.Dec.{leb}
 use lib.ListN.{length, take, drop, length-append, length-drop}
@@ -11,18 +10,17 @@ use lib.Seq.{take-append-seam}
 use borrow.Author.Tests.{leb-true}
 use Rattle.amplitude.proofs.Equal.{both}
 use Rattle.automata.specs.Sets.{QSet}
-use Rattle.stored.specs.Refusal.{Judged, good, refusal, noSource}
+use Rattle.stored.specs.Refusal.{good, refusal, noSource}
 use Rattle.stored.specs.Rules.{setBounds}
 use Rattle.stored.specs.Judge.{judgeSet}
 use Rattle.stored.specs.Pack.{fileOf}
 use Rattle.stored.proofs.Reading.{Bytes, well-formed, need-good}
 use Rattle.gates.specs.Gate.{Gate}
 use Rattle.gates.specs.Circuit.{judgeOne}
-use Rattle.gates.specs.Refuse.{afterGates}
 use Rattle.gates.proofs.Fits.{one-fits}
 use Rattle.gates.proofs.Circuits.{Carries, carries, went}
 use Rattle.gates.proofs.WellBuilt.{WellStored, well-stored}
-use Rattle.jobs.specs.Reply.{Reply, made}
+use Rattle.jobs.specs.Reply.{made}
 use Rattle.jobs.specs.Buffers.{Buffer, longEnough}
 use Rattle.jobs.specs.OneGate.{outputSize, newSet, oneGateLong, oneGateJudged, oneGateReply, oneGateOutput}
 

@@ -1,5 +1,4 @@
 -- Document 01, the job *Check*: "start, circuit, end, allowance B (32 bits, unsigned), work buffers".
-use mathlib.Core.Bool.{Bool}
 use mathlib.Core.List.{List}
 use Prim.Native.Nat.{ℕ}
 use lib.Dec.{eqb}

@@ -1,6 +1,6 @@
 -- Document 01, "The release tool is written in C": "Its entry lends the work buffers itself and writes the reply into a lent byte buffer, size
 -- (a fixed number, at most 256 bytes) and layout in docs/; a shorter one gives 17 and stays."
-use mathlib.Core.Bool.{Bool, cond}
+use mathlib.Core.Bool.{cond}
 use mathlib.Core.List.{List, [], _∷_, _++_}
 use Prim.Native.Nat.{ℕ}
 use lib.ListN.{length, drop, replicate}

@@ -5,12 +5,12 @@ use mathlib.Core.List.{List, [], _∷_, _++_}
 use Prim.Native.Nat.{ℕ, zero, suc, _+_, _/_, _%_}
 use lib.ListN.{length, take, drop}
 use lib.Dec.{eqb, leb, ltb}
-use Rattle.automata.specs.Members.{Member, member, flat}
-use Rattle.stored.specs.Refusal.{Judged, good, need, onGood, refusal, noSource}
+use Rattle.automata.specs.Members.{member, flat}
+use Rattle.stored.specs.Refusal.{need, refusal, noSource}
 use Rattle.stored.specs.Fields.{u32At, markAt}
-use Rattle.verdict.specs.Verdict.{Verdict, holds, fails, undecided}
+use Rattle.verdict.specs.Verdict.{holds, fails, undecided}
 use Rattle.jobs.specs.Reply.{Reply, refused, made, says, replyOf}
-use Rattle.jobs.specs.Check.{Ready, judgeCheck, answer}
+use Rattle.jobs.specs.Check.{judgeCheck, answer}
 
 abbrev pub fixedSize : ℕ
 fixedSize = 18

@@ -2,7 +2,7 @@
 use mathlib.Core.List.{List, _++_}
 use Prim.Native.Nat.{ℕ}
 use lib.ListN.{take, replicate}
-use Rattle.automata.specs.Members.{Member, member}
+use Rattle.automata.specs.Members.{member}
 use Rattle.stored.specs.Refusal.{Refusal, Judged}
 use Rattle.verdict.specs.Verdict.{Verdict, holds, fails, undecided}
 

@@ -1,5 +1,5 @@
 -- Numbering over stored keys is numbering over keys: a stored key is read back, and two are the same exactly if their keys are. Assumes nothing.
-use mathlib.Core.Path.{_≡_, refl, sym, ap, ap₂, _∙_, subst}
+use mathlib.Core.Path.{_≡_, refl, ap, ap₂, _∙_, subst}
 use mathlib.Core.Bool.{Bool, true, false, cond, _||_}
 use mathlib.Core.List.{List, [], _∷_, _++_, map}
 use Prim.Native.Nat.{ℕ, zero, suc, _+_, _-_, _*_, _/_, _%_, _<_}
@@ -7,19 +7,16 @@ use native.Mathlib.Omega.{arith}
 use lib.ListN.{length}
 use lib.Dec.{eqb}
 use borrow.Author.Tests.{eq-eqb, ne-eqb, eqb-true}
-use Rattle.amplitude.specs.Leaf.{Leaf}
 use Rattle.automata.specs.Choice.{Alt, alt, mapAlt}
 use Rattle.automata.specs.Tree.{Automaton}
 use Rattle.automata.specs.Sets.{TR, LF}
 use Rattle.automata.proofs.Lists.{Each}
-use Rattle.gates.specs.Gate.{Gate}
-use Rattle.gates.specs.Key.{Side, L, R, Key, plain, shifted, inside, pair, sameKey, radix, packed, sideTag, stored}
-use Rattle.gates.specs.Roles.{Two, keyed}
+use Rattle.gates.specs.Key.{L, R, Key, plain, shifted, inside, pair, sameKey, radix, packed, stored}
 use Rattle.gates.specs.Numbering.{rows, allRows, Built, onTop, isIn, mention, mentions, mentionAll, place, placed, number}
 use Rattle.gates.proofs.BuildShape.{Taken}
 use Rattle.gates.proofs.Demand2.{key-sound, key-same}
 use Rattle.gates.proofs.KeysApart.{Narrow, keys-apart}
-use Rattle.stepwise.specs.Code.{tagIn, firstIn, secondIn, unstored, storedTwo, coded}
+use Rattle.stepwise.specs.Code.{tagIn, firstIn, secondIn, unstored}
 
 -- ---- a stored key is read back
 pub digits : (t q p : ℕ) → q < radix → p < radix → (tagIn (packed t q p) ≡ t) × (firstIn (packed t q p) ≡ q) × (secondIn (packed t q p) ≡ p)

@@ -1,12 +1,12 @@
 -- A level grown record by record is the level that the definitions number: a number, once given, stays. Assumes nothing.
 use mathlib.Core.Path.{_≡_, refl, sym, ap, ap₂, _∙_}
-use mathlib.Core.Bool.{Bool, true, false}
+use mathlib.Core.Bool.{Bool, true}
 use mathlib.Core.List.{List, [], _∷_, _++_, append-assoc}
 use Prim.Native.Nat.{ℕ, suc, _+_}
 use Rattle.automata.specs.Choice.{Alt, alt, mapAlt}
 use Rattle.automata.specs.Sets.{TR, rec}
 use Rattle.gates.specs.Numbering.{rows, allRows, isIn, mention, mentions, mentionAll, place, placed}
-use Rattle.gates.proofs.NumberingLaws.{mention-keeps, mention-has, mentions-keeps, all-keeps, place-mention}
+use Rattle.gates.proofs.NumberingLaws.{mention-keeps, mention-has, mentions-keeps, place-mention}
 use Rattle.stepwise.specs.Grow.{Level, begun, grow, growState, growAll}
 
 module _ {K : Type 0} (same : K → K → Bool) (refl-same : (x : K) → same x x ≡ true) where

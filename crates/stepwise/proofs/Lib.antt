@@ -1,4 +1,5 @@
 pub mod GrowLaws
 pub mod CodeLaws
+pub mod Meetings
 pub mod MeetLaws
 pub mod StoredLaws

@@ -1,12 +1,11 @@
 -- What a gate builds over stored keys is what it builds: every key that a well-formed set leads to has both numbers below 65,536. Assumes nothing.
-use mathlib.Core.Path.{_≡_, refl, sym, ap, _∙_}
+use mathlib.Core.Path.{_≡_, refl, ap}
 use mathlib.Core.Bool.{Bool, true, false, cond}
 use mathlib.Core.List.{List, [], _∷_, map}
 use Prim.Native.Nat.{ℕ, zero, suc, _+_, _<_, _≤_}
 use native.Mathlib.Omega.{arith}
-use lib.ListN.{length}
 use lib.Dec.{eqb}
-use Rattle.automata.specs.Choice.{Alt, alt, mapAlt, together}
+use Rattle.automata.specs.Choice.{alt, mapAlt}
 use Rattle.automata.specs.Tree.{Automaton}
 use Rattle.automata.specs.Sets.{TR, rec, QSet, sum, own, automatonOf, roots, rootsIn}
 use Rattle.automata.specs.Members.{upTo}
@@ -17,12 +16,12 @@ use Rattle.gates.specs.Gate.{Kind, phase, flip, H, Gate}
 use Rattle.gates.specs.Matrix.{back}
 use Rattle.gates.specs.Key.{Side, L, R, Key, plain, shifted, inside, pair, turned, radix, sameKey, stored}
 use Rattle.gates.specs.Roles.{Role, pass, begin, cross, act, within, role, Two, kindKids, plainKids, insideKids, pairKids, keyed}
-use Rattle.gates.specs.Numbering.{Built, number}
+use Rattle.gates.specs.Numbering.{number}
 use Rattle.gates.specs.Build.{rootKeys, buildOf}
 use Rattle.gates.proofs.BuildShape.{Taken}
 use Rattle.gates.proofs.Stages.{taken-map, taken-together}
 use Rattle.gates.proofs.KeysApart.{Narrow}
-use Rattle.stepwise.specs.Code.{unstored, storedTwo, coded}
+use Rattle.stepwise.specs.Code.{storedTwo, coded}
 use Rattle.stepwise.proofs.CodeLaws.{unstored-stored, stored-same, number-code}
 
 abbrev Small : ℕ × ℕ → Type 0

@@ -1,12 +1,11 @@
 -- Keys as numbers: a gate's automaton whose states are stored keys.
-use mathlib.Core.List.{List}
 use Prim.Native.Nat.{ℕ, _/_, _%_, _-_}
 use mathlib.Core.Bool.{cond}
-use lib.Dec.{eqb, ltb}
-use Rattle.automata.specs.Choice.{Alt, mapAlt}
+use lib.Dec.{eqb}
+use Rattle.automata.specs.Choice.{mapAlt}
 use Rattle.automata.specs.Tree.{Automaton}
 use Rattle.gates.specs.Gate.{Gate}
-use Rattle.gates.specs.Key.{Side, L, R, Key, plain, shifted, inside, pair, radix, stored}
+use Rattle.gates.specs.Key.{L, R, Key, plain, shifted, inside, pair, radix, stored}
 use Rattle.gates.specs.Roles.{Two, keyed}
 
 -- the tag, the first and the second number of a stored key

@@ -1,5 +1,5 @@
 -- Document 01, "A pair walks both its states at once": the meeting transitions of two states in order of least choice, found choice by choice.
-use mathlib.Core.Bool.{Bool, true, false, cond}
+use mathlib.Core.Bool.{true, false, cond}
 use mathlib.Core.List.{List, [], _∷_}
 use Prim.Native.Nat.{ℕ, zero, suc}
 use lib.Dec.{eqb}

@@ -1,14 +1,14 @@
 -- A number's bytes read back as that number, and bytes are read at a seam as at the front of what stands behind it. Assumes nothing.
 use mathlib.Core.Path.{_≡_, refl, sym, ap, ap₂, _∙_}
-use mathlib.Core.Bool.{Bool, true, false, cond, _&&_}
+use mathlib.Core.Bool.{_&&_}
 use mathlib.Core.List.{List, [], _∷_, _++_, map, append-assoc}
-use Prim.Native.Nat.{ℕ, zero, suc, _+_, _-_, _*_, _/_, _%_, _<_, _≤_}
+use Prim.Native.Nat.{ℕ, suc, _+_, _-_, _*_, _/_, _%_, _<_, _≤_}
 use native.Mathlib.Nat.{div-div-eq-div-mul}
 use native.Mathlib.Omega.{arith}
 use lib.ListN.{length, getD, length-append}
 use lib.Seq.{getD-append-add}
 use lib.IntN.{ℤ, pos, negsuc, natAbs}
-use lib.Dec.{eqb, ltb}
+use lib.Dec.{eqb}
 use borrow.Author.Tests.{lt-ltb, le-ltb}
 use Rattle.amplitude.specs.Amp.{most}
 use Rattle.automata.specs.Members.{flat}

@@ -1,23 +1,23 @@
 -- Rule 10 says what it should: records are in order exactly if any two of them stand by state, then by least choice, and share no choice within
 -- one state. Assumes nothing.
-use mathlib.Core.Path.{_≡_, refl, sym, ap, _∙_}
+use mathlib.Core.Path.{_≡_, refl, ap, _∙_}
 use mathlib.Core.Bool.{Bool, true, false, cond, _&&_, _||_, not, false≢true}
 use mathlib.Core.Logic.{_⊎_, inl, inr}
-use mathlib.Core.List.{List, [], _∷_, _++_}
-use Prim.Native.Nat.{ℕ, zero, suc, _<_, _≤_}
+use mathlib.Core.List.{List, [], _∷_}
+use Prim.Native.Nat.{ℕ, suc, _<_}
 use native.Mathlib.Omega.{arith}
 use lib.ListN.{length}
 use lib.Dec.{eqb, ltb}
 use lib.Bits.{bitAnd}
-use borrow.Author.Tests.{eqb-true, eqb-false, eq-eqb, ne-eqb, ltb-true, lt-ltb}
+use borrow.Author.Tests.{eqb-true, eq-eqb, ne-eqb, ltb-true, lt-ltb}
 use Rattle.amplitude.proofs.Equal.{both}
-use Rattle.automata.specs.Choice.{least, Alt, alt}
+use Rattle.automata.specs.Choice.{least, alt}
 use Rattle.automata.specs.Sets.{Rec, rec, own}
 use Rattle.automata.proofs.Masks.{never-of}
 use Rattle.automata.proofs.Choosing.{Apart, Disjoint}
 use Rattle.automata.proofs.Order.{Above, Rising}
 use Rattle.automata.proofs.Lists.{Each, Strictly, each-map}
-use Rattle.stored.specs.Rules.{precedes, apart, passes, fitsAfter, firstClash, ordered}
+use Rattle.stored.specs.Rules.{precedes, apart, fitsAfter, firstClash, ordered}
 use Rattle.stored.proofs.ScanLaws.{each-passes, passes-each}
 
 either : (a b : Bool) → a || b ≡ true → (a ≡ true) ⊎ (b ≡ true)

@@ -1,24 +1,23 @@
 -- A well-formed set's bytes pass rules 1 to 10, have the length that its counts give, and read back as that set. Assumes nothing.
-use mathlib.Core.Path.{_≡_, refl, sym, ap, ap₂, _∙_}
-use mathlib.Core.Bool.{Bool, true, false, cond, _&&_, not}
+use mathlib.Core.Path.{_≡_, refl, sym, ap, _∙_}
+use mathlib.Core.Bool.{true}
 use mathlib.Core.List.{List, [], _∷_, _++_, map, append-assoc}
-use Prim.Native.Nat.{ℕ, zero, suc, _+_, _-_, _*_, _/_, _%_, _^_, _<_, _≤_}
+use Prim.Native.Nat.{ℕ, suc, _+_, _*_, _/_, _%_, _^_, _<_, _≤_}
 use native.Mathlib.Omega.{arith}
-use lib.ListN.{length, getD, length-append}
-use lib.Dec.{eqb, leb}
+use lib.ListN.{length, length-append}
 use lib.IntN.{ℤ, natAbs}
 use borrow.Author.Tests.{eq-eqb, ne-eqb, le-leb}
-use Rattle.amplitude.specs.Amp.{Amp, amp, most}
-use Rattle.amplitude.specs.Leaf.{Leaf, leaf, kMost}
-use Rattle.automata.specs.Sets.{Rec, rec, TR, LF, QSet, sum, roots}
+use Rattle.amplitude.specs.Amp.{amp, most}
+use Rattle.amplitude.specs.Leaf.{leaf}
+use Rattle.automata.specs.Sets.{rec, TR, LF, QSet, sum, roots}
 use Rattle.automata.specs.Members.{flat}
 use Rattle.automata.proofs.Lists.{Each}
-use Rattle.stored.specs.Refusal.{Judged, good}
-use Rattle.stored.specs.Fields.{u16At, u32At, i32At, signed32, unsigned32, markAt, recordsFrom, bytes16, bytes32}
-use Rattle.stored.specs.Form.{Form, formOf, hdSize, lvSize, trSize, lfSize, levels, trsAt, lfsAt, fileSize, countAt, trAt, lfAt, setOf}
-use Rattle.stored.specs.Rules.{Bounds, setBounds, passes, nMost, levelOf, trsOk, lfsOk, orderOk, headOk, versionOk, rangesOk, countsOk, lengthOk, marksOk, levelsOk}
+use Rattle.stored.specs.Refusal.{good}
+use Rattle.stored.specs.Fields.{u16At, u32At, i32At, signed32, unsigned32, markAt, recordsFrom}
+use Rattle.stored.specs.Form.{Form, formOf, hdSize, lvSize, trSize, lfSize, trsAt, lfsAt, fileSize, countAt, trAt, lfAt, setOf}
+use Rattle.stored.specs.Rules.{Bounds, setBounds, passes, levelOf, headOk, versionOk, rangesOk, countsOk, lengthOk, marksOk, levelsOk}
 use Rattle.stored.specs.Judge.{judgeSet}
-use Rattle.stored.specs.Pack.{hdBytes, lvBytes, trBytes, lfBytes, ampBytes, fileOf}
+use Rattle.stored.specs.Pack.{hdBytes, lvBytes, trBytes, lfBytes, fileOf}
 use Rattle.stored.proofs.FieldLaws.{u16-seam, u32-seam, i32-seam, mark-seam, split16, split32, signed-unsigned, unsigned-small, flat-length, read-all}
 use Rattle.stored.proofs.ScanLaws.{each-passes}
 use Rattle.stored.proofs.WellFormed.{Narrow, WellFormed, maskIn, kIn, FineTR, FineLF, in-range, trs-fine, lfs-fine, state-small}

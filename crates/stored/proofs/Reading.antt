@@ -1,15 +1,15 @@
 -- A set file that no rule refuses holds a well-formed set, the one that its bytes say. Assumes nothing.
-use mathlib.Core.Path.{_≡_, refl, sym, ap, _∙_, subst}
-use mathlib.Core.Bool.{Bool, true, false, _&&_, not, false≢true}
-use mathlib.Core.List.{List, [], _∷_}
-use Prim.Native.Nat.{ℕ, zero, suc, _+_, _*_, _^_, _<_, _≤_}
+use mathlib.Core.Path.{_≡_, refl, ap, subst}
+use mathlib.Core.Bool.{Bool, true, false, not}
+use mathlib.Core.List.{List}
+use Prim.Native.Nat.{ℕ, zero, suc, _+_, _^_, _<_, _≤_}
 use native.Mathlib.Omega.{arith}
 use lib.ListN.{length, getD}
 use lib.Dec.{eqb, leb}
 use borrow.Author.Tests.{eqb-true, eqb-false, leb-true, not-true}
 use Rattle.amplitude.specs.Leaf.{kMost}
 use Rattle.amplitude.proofs.Equal.{both}
-use Rattle.automata.specs.Sets.{TR, LF, QSet, sum, roots}
+use Rattle.automata.specs.Sets.{QSet, sum, roots}
 use Rattle.automata.proofs.Lists.{Each}
 use Rattle.stored.specs.Refusal.{Refusal, refusal, Judged, refused, good, need}
 use Rattle.stored.specs.Fields.{u16At, u32At, recordsFrom}

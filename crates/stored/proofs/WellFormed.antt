@@ -1,20 +1,18 @@
 -- A well-formed set: what rules 3, 4 and 7 to 10 ask of it, that its masks have 32 bits, and that its leaves have its k. Assumes nothing.
-use mathlib.Core.Path.{_≡_, refl, sym, ap, _∙_}
-use mathlib.Core.Bool.{Bool, true, false, cond, _&&_, not, false≢true}
-use mathlib.Core.List.{List, [], _∷_}
-use Prim.Native.Nat.{ℕ, zero, suc, _+_, _-_, _^_, _<_, _≤_}
+use mathlib.Core.Path.{_≡_, refl}
+use mathlib.Core.Bool.{Bool, true, false, cond, not}
+use Prim.Native.Nat.{ℕ, suc, _+_, _^_, _<_, _≤_}
 use native.Mathlib.Omega.{arith}
 use lib.ListN.{length}
 use lib.Dec.{eqb, leb}
 use lib.IntN.{ℤ, natAbs}
 use borrow.Author.Tests.{eqb-true, eqb-false, eq-eqb, ne-eqb, leb-true, le-leb, not-true}
-use Rattle.amplitude.specs.Amp.{Amp, amp, most, inRange, inRangeA}
-use Rattle.amplitude.specs.Leaf.{Leaf, leaf, kMost, kOf, inRangeL}
+use Rattle.amplitude.specs.Amp.{amp, most, inRange, inRangeA}
+use Rattle.amplitude.specs.Leaf.{Leaf, kMost, kOf, inRangeL}
 use Rattle.amplitude.proofs.Equal.{both}
 use Rattle.automata.specs.Sets.{Rec, rec, TR, LF, QSet, sum, roots}
-use Rattle.automata.proofs.Masks.{Mask}
 use Rattle.automata.proofs.Lists.{Each, each-map}
-use Rattle.stored.specs.Rules.{Bounds, nMost, passes, levelOf, trFault, trsOk, lfOk, lfsOk, orderOk}
+use Rattle.stored.specs.Rules.{Bounds, nMost, levelOf, trFault, trsOk, lfOk, lfsOk, orderOk}
 use Rattle.stored.proofs.ScanLaws.{passes-each}
 use Rattle.stored.proofs.Levels.{level-below}
 

@@ -1,6 +1,6 @@
 -- Document 01, "Stored form": "Little-endian, signed numbers in two's complement." Numbers of a list of bytes, and bytes of numbers.
 use mathlib.Core.Bool.{Bool, cond, _&&_}
-use mathlib.Core.List.{List, [], _∷_, _++_}
+use mathlib.Core.List.{List, [], _∷_}
 use Prim.Native.Nat.{ℕ, zero, suc, _+_, _-_, _*_, _/_, _%_}
 use lib.ListN.{getD}
 use lib.IntN.{ℤ, pos, negsuc}

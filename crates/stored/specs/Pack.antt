@@ -1,5 +1,5 @@
 -- Document 01, "Stored form": a set as bytes.
-use mathlib.Core.List.{List, [], _∷_, _++_}
+use mathlib.Core.List.{List, _∷_, _++_}
 use Prim.Native.Nat.{ℕ}
 use lib.ListN.{length}
 use Rattle.amplitude.specs.Amp.{Amp, amp}

@@ -1,11 +1,11 @@
 -- Document 01, "Replies" 1 to 10: each rule as a test of a set file.
-use mathlib.Core.Bool.{Bool, true, false, cond, _&&_, _||_, not}
+use mathlib.Core.Bool.{Bool, true, cond, _&&_, _||_, not}
 use mathlib.Core.List.{List, [], _∷_}
-use Prim.Native.Nat.{ℕ, suc, _+_}
+use Prim.Native.Nat.{ℕ, suc}
 use lib.ListN.{length, getD}
 use lib.Dec.{eqb, ltb, leb}
 use lib.Bits.{bitAnd}
-use Rattle.amplitude.specs.Leaf.{Leaf, kMost, inRangeL}
+use Rattle.amplitude.specs.Leaf.{kMost, inRangeL}
 use Rattle.automata.specs.Choice.{least}
 use Rattle.automata.specs.Sets.{Rec, rec, TR, LF, QSet, sum, roots, levelIn}
 use Rattle.stored.specs.Fields.{markAt, recordsFrom}

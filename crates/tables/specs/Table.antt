@@ -5,14 +5,14 @@
 -- its records begin: the number of rows of smaller states.
 use mathlib.Core.Path.{_≡_}
 use mathlib.Core.Bool.{cond}
-use mathlib.Core.List.{List, [], _∷_}
+use mathlib.Core.List.{List}
 use Prim.Native.Nat.{ℕ, zero, suc, _+_, _*_, _≤_}
 use lib.IntN.{ℤ, pos}
 use lib.Dec.{ltb}
 use lib.ListN.{length, getD, take}
 use Rattle.amplitude.specs.Amp.{amp}
 use Rattle.amplitude.specs.Leaf.{Leaf, leaf}
-use Rattle.automata.specs.Sets.{Rec, rec, TR, LF, QSet, sum}
+use Rattle.automata.specs.Sets.{rec, TR, LF, QSet, sum}
 use Rattle.stored.specs.Fields.{recordsFrom}
 
 abbrev pub rowWidth : ℕ

@@ -1,21 +1,19 @@
 -- What a verdict says of the members in order, over any test of a member; that a larger allowance changes no "holds" and no "fails"; and that
 -- a start passes exactly if some root and word of the end set give an equal tree. Assumes nothing.
-use mathlib.Core.Path.{_≡_, refl, sym, ap, _∙_, subst}
+use mathlib.Core.Path.{_≡_, refl, ap}
 use mathlib.Core.Bool.{Bool, true, false, false≢true}
 use mathlib.Core.Logic.{_⊎_, inl, inr}
 use mathlib.Core.List.{List, [], _∷_, List·Memᴰ, List·Memᴰ·head, List·Memᴰ·tail, List·Memᴰ·not-nil, List·Memᴰ·cases-cons}
-use mathlib.Core.Option.{Option, none, some}
+use mathlib.Core.Option.{some}
 use Prim.Native.Nat.{ℕ, zero, suc, _+_, _<_, _≤_}
 use native.Mathlib.Omega.{arith}
 use lib.ListN.{length, take, getElem?}
-use Rattle.automata.specs.Tree.{Tree, treeOf, sameT}
+use Rattle.automata.specs.Tree.{Tree, treeOf}
 use Rattle.automata.specs.Sets.{QSet, automatonOf, tree}
-use Rattle.automata.specs.Members.{Member, member, runs, members, stateOf}
+use Rattle.automata.specs.Members.{Member, member, runs, members}
 use Rattle.automata.proofs.Lists.{Each}
 use Rattle.automata.proofs.MemberLaws.{IsMember, is-listed, is-member}
-use Rattle.gates.specs.Gate.{Gate}
-use Rattle.gates.specs.Matrix.{carried}
-use Rattle.verdict.specs.Verdict.{endTree, equals, isOneOf, isState, endsWell, Verdict, holds, fails, undecided, examine, verdict}
+use Rattle.verdict.specs.Verdict.{endTree, equals, isOneOf, isState, Verdict, holds, fails, undecided, examine, verdict}
 
 module _ (passes : Member → Bool) where
   abbrev pub AllPass : List Member → Type 0

@@ -1,15 +1,15 @@
 -- The search finds a word exactly where there is one: by one word of the end set every pair's two trees are equal, so "is a state of the end
 -- set" by the search is the plain "some root and word of the end set give an equal tree". Assumes nothing.
-use mathlib.Core.Path.{_≡_, refl, sym, ap, ap₂, _∙_, subst}
+use mathlib.Core.Path.{_≡_, refl, sym, ap, ap₂, _∙_}
 use mathlib.Core.Bool.{Bool, true, false, cond, _&&_, _||_, false≢true}
 use mathlib.Core.Logic.{_⊎_, inl, inr}
 use mathlib.Core.List.{List, [], _∷_, List·Memᴰ, List·Memᴰ·head, List·Memᴰ·tail, List·Memᴰ·not-nil, List·Memᴰ·cases-cons}
 use mathlib.Core.Option.{Option, none, some}
-use Prim.Native.Nat.{ℕ, zero, suc, _+_, _<_, _≤_}
+use Prim.Native.Nat.{ℕ, zero, suc}
 use native.Mathlib.Omega.{arith}
 use lib.Dec.{eqb}
 use borrow.Author.Tests.{eqb-true}
-use Rattle.amplitude.specs.Leaf.{Leaf, same}
+use Rattle.amplitude.specs.Leaf.{Leaf}
 use Rattle.amplitude.proofs.Equal.{both}
 use Rattle.automata.specs.Choice.{choose}
 use Rattle.automata.specs.Tree.{Tree, Automaton, treeOf, node, andThen, sameT}
@@ -17,7 +17,6 @@ use Rattle.automata.specs.Sets.{QSet, automatonOf, roots, tree}
 use Rattle.automata.specs.Members.{choices, upTo}
 use Rattle.automata.proofs.Lists.{upTo-mem, upTo-inv}
 use Rattle.automata.proofs.Words.{isSome, Word}
-use Rattle.automata.proofs.MemberLaws.{IsMember}
 use Rattle.verdict.specs.Verdict.{equals, isState}
 use Rattle.verdict.specs.Search.{Pair, samePair, isMet, meet, meetKids, down, sameLeaves, allFit, orNext, tryEach, fitsOne, found, searched}
 use Rattle.verdict.proofs.Demand3.{Equal, is-state, state-is}
