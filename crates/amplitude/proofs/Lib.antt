@@ -1,3 +1,4 @@
 pub mod RingLaws
 pub mod LeafLaws
 pub mod Equal
+pub mod RangeLaws

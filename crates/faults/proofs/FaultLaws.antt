@@ -1,13 +1,11 @@
 -- Rules 8 and 9 of a record speak of n, of levels and of the record's own fields alone. Assumes nothing.
-use mathlib.Core.Path.{_≡_, refl, sym, _∙_}
-use mathlib.Core.Bool.{Bool, true, false, _&&_, not}
+use mathlib.Core.Path.{_≡_, sym}
+use mathlib.Core.Bool.{_&&_, not}
 use mathlib.Core.List.{List}
 use Prim.Native.Nat.{ℕ, _+_}
 use native.Mathlib.Numerals.{add-one}
-use lib.Dec.{eqb, leb, leb·suc-suc}
-use lib.IntN.{ℤ, pos, negsuc}
-use lib.Signed.{leZ}
-use Rattle.amplitude.specs.Amp.{inRange, inRangeA}
+use lib.Dec.{eqb}
+use Rattle.amplitude.specs.Amp.{inRangeA}
 use Rattle.stored.specs.Form.{setOf}
 use Rattle.stored.specs.Rules.{levelOf, trFault, lfOk}
 use Rattle.records.specs.declared.Tr.{Tr}
@@ -15,15 +13,6 @@ use Rattle.records.specs.declared.Lf.{Lf}
 use Rattle.records.specs.Read.{trOf, ampOf, lfOf}
 use Rattle.levels.specs.Levelled.{Levelled}
 use Rattle.faults.specs.Fault.{faultOf}
-
--- the bounds of both signs are one bound of the size
-pub range-both : (z : ℤ) → leZ (negsuc 1073741823) z && leZ z (pos 1073741824) ≡ inRange z
-range-both (pos n) = refl
-range-both (negsuc n) = kept (leb n 1073741823) ∙ sym (leb·suc-suc n 1073741823)
-  where
-    kept : (b : Bool) → b && true ≡ b
-    kept true = refl
-    kept false = refl
 
 module _ (s : List ℕ) (n : ℕ) (h : Levelled s n) where
   n-is : setOf s .n ≡ n

@@ -1,6 +1,6 @@
 -- A bound below and a bound above are one bound of the size. Assumes nothing.
 use mir.Facts.{toZ-ofZ}
-use Rattle.faults.proofs.FaultLaws.{range-both}
+use Rattle.amplitude.proofs.RangeLaws.{range-both}
 use Rattle.faults.proofs.coef_ok.Statement.{statement}
 use Rattle.faults.proofs.coef_ok.Tie as tie
 
