@@ -25,7 +25,7 @@ use Rattle.lookup.proofs.OwnRows.{own-append, own-none, own-map, choose
 use Rattle.lookup.proofs.Unions.{union-has, some-map}
 
 -- ---- alternatives and answers through a map
-none-mapped : {X Y : Type 0} (f : X → Y) (us : List (Alt X)) → mapAlt f us ≡ [] → us ≡ []
+pub none-mapped : {X Y : Type 0} (f : X → Y) (us : List (Alt X)) → mapAlt f us ≡ [] → us ≡ []
 none-mapped f [] e = refl
 none-mapped f (alt m x ∷ us) e = let z : _≡_ {A = ℕ} 0 1 = cc in absurd (omega arith)
 
@@ -58,16 +58,16 @@ pub record RowOf (rows masks : List ℕ) (total s c i : ℕ) : Type 0 where
 -- ---- slices that hold a set whose records stand by state
 module _ {rows masks : List ℕ} {coefs : List ℤ} {counts first : List ℕ} {Q : QSet} (h : Holds rows masks coefs counts first Q)
     (r : Rising (stateAt Q) (length (Q .inner) + length (Q .leaves))) (s : ℕ) (there : s < sum (Q .counts)) where
-  abbrev total : ℕ
+  abbrev pub total : ℕ
   total = length (Q .inner) + length (Q .leaves)
 
-  rising : Rising (stateRow rows) total
+  pub rising : Rising (stateRow rows) total
   rising = row-states-rise (Q .n) (Q .k) rows masks coefs counts (length (Q .inner)) (length (Q .leaves)) (h .is) r
 
-  begin : getD first s 0 ≡ rowsBelow rows s total
+  pub begin : getD first s 0 ≡ rowsBelow rows s total
   begin = h .begins s (omega arith)
 
-  end : getD first (s + 1) 0 ≡ rowsBelow rows (s + 1) total
+  pub end : getD first (s + 1) 0 ≡ rowsBelow rows (s + 1) total
   end = h .begins (s + 1) (omega arith)
 
   -- the rows of the state are rows of the table
@@ -86,11 +86,11 @@ module _ {rows masks : List ℕ} {coefs : List ℤ} {counts first : List ℕ} {Q
       ∙ sym (map-records (mapRec (named coefs)) (trRow rows masks) (length (Q .inner)) 1 (length (Q .leaves)))
 
   -- the rows of all LF records
-  abbrev lower : List TR
+  abbrev pub lower : List TR
   lower = trRows rows masks (length (Q .inner)) (length (Q .leaves))
 
   -- the records of the state among all rows: its TR records, then the rows of its LF records
-  own-all : own s (trRows rows masks 0 total) ≡ own s (Q .inner) ++ own s lower
+  pub own-all : own s (trRows rows masks 0 total) ≡ own s (Q .inner) ++ own s lower
   unfolding trRows
   own-all =
       let z : 0 + length (Q .inner) ≡ length (Q .inner) = omega arith in
@@ -98,7 +98,7 @@ module _ {rows masks : List ℕ} {coefs : List ℤ} {counts first : List ℕ} {Q
       ∙ own-append s (trRows rows masks 0 (length (Q .inner))) (trRows rows masks (0 + length (Q .inner)) (length (Q .leaves)))
       ∙ ap₂ (λ (ts us : List TR). own s ts ++ own s us) (sym inner-are) (ap (λ (i : ℕ). trRows rows masks i (length (Q .leaves))) z)
 
-  own-leaves : own s (Q .leaves) ≡ mapAlt (named coefs) (own s lower)
+  pub own-leaves : own s (Q .leaves) ≡ mapAlt (named coefs) (own s lower)
   own-leaves = ap (own s) leaves-are ∙ own-map s (named coefs) lower
 
   module _ (c : ℕ) where
@@ -132,10 +132,10 @@ module _ {rows masks : List ℕ} {coefs : List ℤ} {counts first : List ℕ} {Q
 
 -- ---- a well-formed set
 module _ {b : Bounds} {Q : QSet} (w : WellFormed b Q) {rows masks : List ℕ} {coefs : List ℤ} {counts first : List ℕ} (h : Holds rows masks coefs counts first Q) (s c : ℕ) where
-  no-leaf : levelOf Q s ≤ Q .n → (l : LF) → FineLF Q l → stateIn l ≡ s → ⊥
+  pub no-leaf : levelOf Q s ≤ Q .n → (l : LF) → FineLF Q l → stateIn l ≡ s → ⊥
   no-leaf at (rec q m x) f e = omega (arith, f .state, ap (levelOf Q) e)
 
-  no-inner : levelOf Q s ≡ suc (Q .n) → (t : TR) → FineTR Q t → stateIn t ≡ s → ⊥
+  pub no-inner : levelOf Q s ≡ suc (Q .n) → (t : TR) → FineTR Q t → stateIn t ≡ s → ⊥
   no-inner at (rec q m p) f e = omega (arith, f .state, ap (levelOf Q) e)
 
   -- a state of levels 1 to n: left and right of the row found, or nothing exactly if the state has no transition with the choice

@@ -47,18 +47,18 @@ module _ {X : Type 0} (s : ℕ) where
 -- ---- in rows
 module _ (rows masks : List ℕ) (s : ℕ) where
   -- the rows from a to below b
-  abbrev Not : ℕ → ℕ → Type 0
+  abbrev pub Not : ℕ → ℕ → Type 0
   Not a b = (j : ℕ) → a ≤ j → j < b → stateRow rows j ≡ s → ⊥
 
   own-out : (a count : ℕ) → (stateRow rows a ≡ s → ⊥) → own s (trRows rows masks a (suc count)) ≡ own s (trRows rows masks (a + 1) count)
   unfolding trRows recordsFrom trRow
   own-out a count h = rw (ne-eqb (stateRow rows a) s h)
 
-  own-in : (a count : ℕ) → stateRow rows a ≡ s → own s (trRows rows masks a (suc count)) ≡ alt (getD masks a 0) (pairRow rows a) ∷ own s (trRows rows masks (a + 1) count)
+  pub own-in : (a count : ℕ) → stateRow rows a ≡ s → own s (trRows rows masks a (suc count)) ≡ alt (getD masks a 0) (pairRow rows a) ∷ own s (trRows rows masks (a + 1) count)
   unfolding trRows recordsFrom trRow
   own-in a count h = rw (eq-eqb (stateRow rows a) s h)
 
-  own-skip : (d a count : ℕ) → d ≤ count → Not a (a + d) → own s (trRows rows masks a count) ≡ own s (trRows rows masks (a + d) (count - d))
+  pub own-skip : (d a count : ℕ) → d ≤ count → Not a (a + d) → own s (trRows rows masks a count) ≡ own s (trRows rows masks (a + d) (count - d))
   own-skip zero a count h others =
       let e : a ≡ a + 0 = omega arith in
       let n : count ≡ count - 0 = omega arith in
@@ -71,7 +71,7 @@ module _ (rows masks : List ℕ) (s : ℕ) where
       ∙ own-skip d (a + 1) count (omega arith) (λ j le lt. others j (omega arith) (omega arith))
       ∙ ap₂ (λ (i k : ℕ). own s (trRows rows masks i k)) e n
 
-  rows-none : (a count : ℕ) → Not a (a + count) → own s (trRows rows masks a count) ≡ []
+  pub rows-none : (a count : ℕ) → Not a (a + count) → own s (trRows rows masks a count) ≡ []
   unfolding trRows recordsFrom
   rows-none a count others =
       let n : count - count ≡ 0 = omega arith in

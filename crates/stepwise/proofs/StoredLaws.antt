@@ -1,21 +1,25 @@
--- What a gate builds over stored keys is what it builds: every key that a well-formed set leads to has both numbers below 65,536. Assumes nothing.
-use mathlib.Core.Path.{_≡_, refl, ap}
+-- What a gate builds over stored keys is what it builds: every key that a set leads to has its numbers where the set's states are, below 65,536.
+-- Assumes nothing.
+use mathlib.Core.Path.{_≡_, refl, ap, ap₂, _∙_}
 use mathlib.Core.Bool.{Bool, true, false, cond}
 use mathlib.Core.List.{List, [], _∷_, map}
 use Prim.Native.Nat.{ℕ, zero, suc, _+_, _<_, _≤_}
 use native.Mathlib.Omega.{arith}
 use lib.Dec.{eqb}
-use Rattle.automata.specs.Choice.{alt, mapAlt}
+use borrow.Author.Tests.{eqb-true}
+use Rattle.amplitude.specs.Leaf.{turn}
+use Rattle.automata.specs.Choice.{alt, mapAlt, together}
 use Rattle.automata.specs.Tree.{Automaton}
-use Rattle.automata.specs.Sets.{TR, rec, QSet, sum, own, automatonOf, roots, rootsIn}
+use Rattle.automata.specs.Sets.{TR, rec, QSet, own, automatonOf, roots, rootsIn, levelIn}
 use Rattle.automata.specs.Members.{upTo}
 use Rattle.automata.proofs.Lists.{Each}
-use Rattle.stored.specs.Rules.{Bounds}
+use Rattle.stored.specs.Rules.{Bounds, levelOf}
+use Rattle.stored.proofs.Levels.{level-first}
 use Rattle.stored.proofs.WellFormed.{WellFormed, FineTR, trs-fine, state-small}
 use Rattle.gates.specs.Gate.{Kind, phase, flip, H, Gate}
 use Rattle.gates.specs.Matrix.{back}
 use Rattle.gates.specs.Key.{Side, L, R, Key, plain, shifted, inside, pair, turned, radix, sameKey, stored}
-use Rattle.gates.specs.Roles.{Role, pass, begin, cross, act, within, role, Two, kindKids, plainKids, insideKids, pairKids, keyed}
+use Rattle.gates.specs.Roles.{Role, pass, begin, cross, act, within, role, Two, kindKids, plainKids, insideKids, pairKids, pairEnd, keyed}
 use Rattle.gates.specs.Numbering.{number}
 use Rattle.gates.specs.Build.{rootKeys, buildOf}
 use Rattle.gates.proofs.BuildShape.{Taken}
@@ -24,107 +28,148 @@ use Rattle.gates.proofs.KeysApart.{Narrow}
 use Rattle.stepwise.specs.Code.{storedTwo, coded}
 use Rattle.stepwise.proofs.CodeLaws.{unstored-stored, stored-same, number-code}
 
-abbrev Small : ℕ × ℕ → Type 0
-Small p = (p .0 < radix) × (p .1 < radix)
+-- ---- the numbers of a key: once over what is said of them
+abbrev pub Numbers : (ℕ → Type 0) → Key → Type 0
+Numbers N (plain q) = N q
+Numbers N (shifted j q) = N q
+Numbers N (inside q) = N q
+Numbers N (pair q p s) = N q × N p
 
-abbrev Thin : Two → Type 0
-Thin p = Narrow (p .0) × Narrow (p .1)
+pub narrow : (x : Key) → Numbers (λ q. q < radix) x → Narrow x
+narrow (plain q) h = record { first = h; second = omega arith }
+narrow (shifted j q) h = record { first = h; second = omega arith }
+narrow (inside q) h = record { first = h; second = omega arith }
+narrow (pair q p s) h = record { first = h .0; second = h .1 }
 
-single : (q : ℕ) → q < radix → Narrow (plain q)
-single q h = record { first = h; second = omega arith }
+pub numbers-map : (N M : ℕ → Type 0) → ((q : ℕ) → N q → M q) → (x : Key) → Numbers N x → Numbers M x
+numbers-map N M f (plain q) h = f q h
+numbers-map N M f (shifted j q) h = f q h
+numbers-map N M f (inside q) h = f q h
+numbers-map N M f (pair q p s) h = (f q (h .0), f p (h .1))
 
-moved : (j q : ℕ) → q < radix → Narrow (shifted j q)
-moved j q h = record { first = h; second = omega arith }
+module _ (N : ℕ → Type 0) where
+  abbrev pub Both : ℕ × ℕ → Type 0
+  Both p = N (p .0) × N (p .1)
 
-inner : (q : ℕ) → q < radix → Narrow (inside q)
-inner q h = record { first = h; second = omega arith }
+  abbrev pub Kids : Two → Type 0
+  Kids p = Numbers N (p .0) × Numbers N (p .1)
 
-two : (q p : ℕ) (s : Side) → q < radix → p < radix → Narrow (pair q p s)
-two q p s h k = record { first = h; second = k }
+  has-turned : (j q : ℕ) → N q → Numbers N (turned j q)
+  has-turned zero q h = h
+  has-turned (suc j) q h = h
 
-thin-turned : (j q : ℕ) → q < radix → Narrow (turned j q)
-thin-turned zero q h = single q h
-thin-turned (suc j) q h = moved (suc j) q h
+  has-kind : (k : Kind) (p : ℕ × ℕ) → Both p → Kids (kindKids k p)
+  has-kind (phase j) p h = h
+  has-kind (flip j) p h = (has-turned (back j) (p .1) (h .1), has-turned j (p .0) (h .0))
+  has-kind H p h = (h, h)
 
-thin-kind : (k : Kind) (p : ℕ × ℕ) → Small p → Thin (kindKids k p)
-thin-kind (phase j) p h = (single (p .0) (h .0), moved j (p .1) (h .1))
-thin-kind (flip j) p h = (thin-turned (back j) (p .1) (h .1), thin-turned j (p .0) (h .0))
-thin-kind H p h = (two (p .0) (p .1) L (h .0) (h .1), two (p .0) (p .1) R (h .0) (h .1))
+  has-plain : (o : Role) (p : ℕ × ℕ) → Both p → Kids (plainKids o p)
+  has-plain pass p h = h
+  has-plain begin p h = h
+  has-plain cross p h = h
+  has-plain (act k) p h = has-kind k p h
+  has-plain (within k) p h = h
 
-thin-plain : (o : Role) (p : ℕ × ℕ) → Small p → Thin (plainKids o p)
-thin-plain pass p h = (single (p .0) (h .0), single (p .1) (h .1))
-thin-plain begin p h = (single (p .0) (h .0), inner (p .1) (h .1))
-thin-plain cross p h = (single (p .0) (h .0), single (p .1) (h .1))
-thin-plain (act k) p h = thin-kind k p h
-thin-plain (within k) p h = (single (p .0) (h .0), single (p .1) (h .1))
+  has-inside : (o : Role) (p : ℕ × ℕ) → Both p → Kids (insideKids o p)
+  has-inside pass p h = h
+  has-inside begin p h = h
+  has-inside cross p h = h
+  has-inside (act k) p h = h
+  has-inside (within k) p h = has-kind k p h
 
-thin-inside : (o : Role) (p : ℕ × ℕ) → Small p → Thin (insideKids o p)
-thin-inside pass p h = (inner (p .0) (h .0), inner (p .1) (h .1))
-thin-inside begin p h = (inner (p .0) (h .0), inner (p .1) (h .1))
-thin-inside cross p h = (inner (p .0) (h .0), inner (p .1) (h .1))
-thin-inside (act k) p h = (inner (p .0) (h .0), inner (p .1) (h .1))
-thin-inside (within k) p h = thin-kind k p h
+  has-both : (s : Side) (q p : ℕ × ℕ) → Both q → Both p → Kids (pairKids pass s q p)
+  has-both s q p h k = ((h .0, k .0), (h .1, k .1))
 
-thin-both : (s : Side) (q p : ℕ × ℕ) → Small q → Small p → Thin (pairKids pass s q p)
-thin-both s q p h k = (two (q .0) (p .0) s (h .0) (k .0), two (q .1) (p .1) s (h .1) (k .1))
+  has-cross : (s : Side) (q p : ℕ × ℕ) → Both q → Both p → Kids (pairKids cross s q p)
+  has-cross L q p h k = (h .0, k .1)
+  has-cross R q p h k = (k .0, h .1)
 
-thin-cross : (s : Side) (q p : ℕ × ℕ) → Small q → Small p → Thin (pairKids cross s q p)
-thin-cross L q p h k = (single (q .0) (h .0), single (p .1) (k .1))
-thin-cross R q p h k = (single (p .0) (k .0), single (q .1) (h .1))
+  has-pair : (o : Role) (s : Side) (q p : ℕ × ℕ) → Both q → Both p → Kids (pairKids o s q p)
+  has-pair pass s q p h k = has-both s q p h k
+  has-pair begin s q p h k = has-both s q p h k
+  has-pair cross s q p h k = has-cross s q p h k
+  has-pair (act j) s q p h k = has-both s q p h k
+  has-pair (within j) s q p h k = has-both s q p h k
 
-thin-pair : (o : Role) (s : Side) (q p : ℕ × ℕ) → Small q → Small p → Thin (pairKids o s q p)
-thin-pair pass s q p h k = thin-both s q p h k
-thin-pair begin s q p h k = thin-both s q p h k
-thin-pair cross s q p h k = thin-cross s q p h k
-thin-pair (act j) s q p h k = thin-both s q p h k
-thin-pair (within j) s q p h k = thin-both s q p h k
+-- the children of a key whose states' children are M
+pub kids-have : (N M : ℕ → Type 0) (A : Automaton ℕ) (g : Gate) (i : ℕ) → ((q : ℕ) → N q → Taken (Both M) (A .moves i q)) → (x : Key) → Numbers N x → Taken (Kids M) (keyed g A .moves i x)
+kids-have N M A g i f (plain q) h = taken-map (Both M) (Kids M) (plainKids (role g i)) (has-plain M (role g i)) (A .moves i q) (f q h)
+kids-have N M A g i f (shifted j q) h = taken-map (Both M) (Kids M) (λ p. (shifted j (p .0), shifted j (p .1))) (λ p k. k) (A .moves i q) (f q h)
+kids-have N M A g i f (inside q) h = taken-map (Both M) (Kids M) (insideKids (role g i)) (has-inside M (role g i)) (A .moves i q) (f q h)
+kids-have N M A g i f (pair q p s) h = taken-together (Both M) (Both M) (Kids M) (pairKids (role g i) s) (has-pair M (role g i) s) (A .moves i q) (A .moves i p) (f q (h .0)) (f p (h .1))
 
-module _ (A : Automaton ℕ) (small : (i q : ℕ) → Taken Small (A .moves i q)) (g : Gate) where
-  thin-moves : (i : ℕ) (x : Key) → Narrow x → Taken Thin (keyed g A .moves i x)
-  thin-moves i (plain q) h = taken-map Small Thin (plainKids (role g i)) (thin-plain (role g i)) (A .moves i q) (small i q)
-  thin-moves i (shifted j q) h = taken-map Small Thin (λ p. (shifted j (p .0), shifted j (p .1))) (λ p k. (moved j (p .0) (k .0), moved j (p .1) (k .1))) (A .moves i q) (small i q)
-  thin-moves i (inside q) h = taken-map Small Thin (insideKids (role g i)) (thin-inside (role g i)) (A .moves i q) (small i q)
-  thin-moves i (pair q p s) h = taken-together Small Small Thin (pairKids (role g i) s) (thin-pair (role g i) s) (A .moves i q) (A .moves i p) (small i q) (small i p)
+-- ---- numbering over stored keys, with the transitions of a second automaton that agrees on the numbers of each level
+module _ (A B : Automaton ℕ) (g : Gate) (N : ℕ → ℕ → Type 0) (last : ℕ) (few : (i q : ℕ) → N i q → q < radix)
+    (moves : (i q : ℕ) → i < last → N i q → B .moves i q ≡ A .moves i q) (ends : (q : ℕ) → N last q → B .ends q ≡ A .ends q)
+    (down : (i q : ℕ) → i < last → N i q → Taken (Both (N (suc i))) (A .moves i q)) where
+  same-moves : (i : ℕ) (x : Key) → i < last → Numbers (N i) x → keyed g B .moves i x ≡ keyed g A .moves i x
+  same-moves i (plain q) l h = ap (mapAlt (plainKids (role g i))) (moves i q l h)
+  same-moves i (shifted j q) l h = ap (mapAlt (λ p. (shifted j (p .0), shifted j (p .1)))) (moves i q l h)
+  same-moves i (inside q) l h = ap (mapAlt (insideKids (role g i))) (moves i q l h)
+  same-moves i (pair q p s) l h = ap₂ (together (pairKids (role g i) s)) (moves i q l (h .0)) (moves i p l (h .1))
 
-  pub number-stored : (n i s : ℕ) (ks : List Key) → Each Narrow ks → number eqb (coded g A) i n s (map stored ks) ≡ number sameKey (keyed g A) i n s ks
-  number-stored n i s ks h =
-      number-code sameKey eqb stored (keyed g A) (coded g A) (λ j. Narrow) (i + n)
-      (λ j x l k. ap (λ (y : Key). mapAlt storedTwo (keyed g A .moves j y)) (unstored-stored x k)) (λ x k. ap (keyed g A .ends) (unstored-stored x k))
-      (λ j x l k. thin-moves j x k) (λ j. stored-same) n i s ks refl h
+  same-ends : (x : Key) → Numbers (N last) x → keyed g B .ends x ≡ keyed g A .ends x
+  same-ends (plain q) h = ends q h
+  same-ends (shifted j q) h = ap (mapAlt (turn j)) (ends q h)
+  same-ends (inside q) h = ends q h
+  same-ends (pair q p s) h = ap₂ (together (pairEnd s)) (ends q (h .0)) (ends p (h .1))
 
--- ---- of a well-formed set
-abbrev kidsOf : TR → ℕ × ℕ
-kidsOf (rec s m p) = p
+  thin : (i : ℕ) (x : Key) → Numbers (N i) x → Narrow x
+  thin i x h = narrow x (numbers-map (N i) (λ q. q < radix) (few i) x h)
 
-own-small : (q : ℕ) (ts : List TR) → Each (λ t. Small (kidsOf t)) ts → Taken Small (own q ts)
-own-small q [] h = tt
-own-small q (rec s m p ∷ ts) h = go (eqb s q) (own-small q ts (h .1))
+  pub number-stored : (n i s : ℕ) (ks : List Key) → i + n ≡ last → Each (Numbers (N i)) ks → number eqb (coded g B) i n s (map stored ks) ≡ number sameKey (keyed g A) i n s ks
+  number-stored n i s ks e h =
+      number-code sameKey eqb stored (keyed g A) (coded g B) (λ j. Numbers (N j)) last
+      (λ j x l k. ap (λ (y : Key). mapAlt storedTwo (keyed g B .moves j y)) (unstored-stored x (thin j x k)) ∙ ap (mapAlt storedTwo) (same-moves j x l k))
+      (λ x k. ap (keyed g B .ends) (unstored-stored x (thin last x k)) ∙ same-ends x k)
+      (λ j x l k. kids-have (N j) (N (suc j)) A g j (λ q m. down j q l m) x k) (λ j x y k m. stored-same x y (thin j x k) (thin j y m)) n i s ks e h
+
+-- ---- of a well-formed set: the numbers of level i are its states there
+abbrev pub OnLevel : QSet → ℕ → ℕ → Type 0
+OnLevel Q i q = (levelOf Q q ≡ i) × (q < radix)
+
+-- both children of a record of state q
+abbrev KidsOf : (ℕ → Type 0) → ℕ → TR → Type 0
+KidsOf M q (rec s m p) = s ≡ q → Both M p
+
+own-both : (M : ℕ → Type 0) (q : ℕ) (ts : List TR) → Each (KidsOf M q) ts → Taken (Both M) (own q ts)
+own-both M q [] h = tt
+own-both M q (rec s m p ∷ ts) h = go (eqb s q) refl (own-both M q ts (h .1))
   where
-    go : (b : Bool) → Taken Small (own q ts) → Taken Small (cond b (alt m p ∷ own q ts) (own q ts))
-    go true r = (h .0, r)
-    go false r = r
+    go : (b : Bool) → eqb s q ≡ b → Taken (Both M) (own q ts) → Taken (Both M) (cond b (alt m p ∷ own q ts) (own q ts))
+    go true e r = (h .0 (eqb-true s q e), r)
+    go false e r = r
 
 module _ (b : Bounds) (few : b .states < radix) (Q : QSet) (w : WellFormed b Q) where
-  set-small : (i q : ℕ) → Taken Small (automatonOf Q .moves i q)
-  set-small i q = own-small q (Q .inner) (go (Q .inner) (trs-fine b Q w))
+  low : (s : ℕ) → levelOf Q s ≤ suc (Q .n) → s < radix
+  low s h = omega (arith, state-small b Q w s h, w .states)
+
+  -- a transition leads one level down
+  set-down : (i q : ℕ) → i < suc (Q .n) → OnLevel Q i q → Taken (Both (OnLevel Q (suc i))) (automatonOf Q .moves i q)
+  set-down i q l h = own-both (OnLevel Q (suc i)) q (Q .inner) (go (Q .inner) (trs-fine b Q w))
     where
-      low : (s : ℕ) → s < sum (Q .counts) → s < radix
-      low s h = omega (arith, w .states)
+      go : (ts : List TR) → Each (FineTR Q) ts → Each (KidsOf (OnLevel Q (suc i)) q) ts
+      go [] f = tt
+      go (rec s m p ∷ ts) f = (
+        λ e.
+            (let t = f .0 in
+            let here : levelOf Q s ≡ i = ap (levelOf Q) e ∙ h .0 in
+            let left : levelOf Q (p .0) ≡ suc i = t .left ∙ ap suc here in
+            let right : levelOf Q (p .1) ≡ suc i = t .right ∙ ap suc here in
+            ((left, low (p .0) (omega arith)), (right, low (p .1) (omega arith)))),
+        go ts (f .1),
+      )
 
-      go : (ts : List TR) → Each (FineTR Q) ts → Each (λ t. Small (kidsOf t)) ts
-      go [] h = tt
-      go (rec s m p ∷ ts) h =
-          let t = h .0 in
-          ((low (p .0) (state-small b Q w (p .0) (omega (arith, t .left, t .state))), low (p .1) (state-small b Q w (p .1) (omega (arith, t .right, t .state)))), go ts (h .1))
+  root-level : (cs : List ℕ) (q : ℕ) → q < rootsIn cs → levelIn 1 cs q ≡ 1
+  root-level [] q h = absurd (omega arith)
+  root-level (c ∷ cs) q h = level-first 1 c cs q h
 
-  roots-few : (cs : List ℕ) → rootsIn cs ≤ sum cs
-  roots-few [] = omega arith
-  roots-few (c ∷ cs) = omega arith
+  roots-on : (i m : ℕ) → i + m ≤ roots Q → Each (Numbers (OnLevel Q 1)) (map plain (upTo i m))
+  roots-on i zero h = tt
+  roots-on i (suc m) h = ((root-level (Q .counts) i (omega arith), low i (omega (arith, root-level (Q .counts) i (omega arith)))), roots-on (suc i) m (omega arith))
 
-  roots-thin : (i m : ℕ) → i + m ≤ roots Q → Each Narrow (map plain (upTo i m))
-  roots-thin i zero h = tt
-  roots-thin i (suc m) h = (single i (omega (arith, roots-few (Q .counts), w .states)), roots-thin (suc i) m (omega arith))
-
-  -- the set that a gate builds, over stored keys
-  pub build-stored : (g : Gate) → number eqb (coded g (automatonOf Q)) 1 (Q .n) 0 (map stored (rootKeys Q)) ≡ buildOf g Q
-  build-stored g = number-stored (automatonOf Q) set-small g (Q .n) 1 0 (rootKeys Q) (roots-thin 0 (roots Q) (omega arith))
+  -- the set that a gate builds, over stored keys, by an automaton that has the set's transitions level by level
+  pub build-stored : (B : Automaton ℕ) → ((i q : ℕ) → i < suc (Q .n) → OnLevel Q i q → B .moves i q ≡ own q (Q .inner)) → ((q : ℕ) → OnLevel Q (suc (Q .n)) q → B .ends q ≡ own q (Q .leaves))
+      → (g : Gate) → number eqb (coded g B) 1 (Q .n) 0 (map stored (rootKeys Q)) ≡ buildOf g Q
+  build-stored B moves ends g =
+      number-stored (automatonOf Q) B g (OnLevel Q) (suc (Q .n)) (λ i q h. h .1) moves ends set-down (Q .n) 1 0 (rootKeys Q) (omega arith) (roots-on 0 (roots Q) (omega arith))
