@@ -37,7 +37,7 @@ use Rattle.gates.proofs.Stages.{Stage, stage-moves, stage-ends, stage-r
 use Rattle.gates.proofs.Demand2.{Valid, key-same, key-sound, keyed-moves, keyed-ends, roots-kept}
 
 -- ---- a well-formed set's alternatives: masks of 32 bits, in order, with no choice in common
-own-masked : {X : Type 0} (q : ℕ) (ts : List (Rec X)) → Each (λ t. Mask (maskIn t)) ts → Masked (own q ts)
+pub own-masked : {X : Type 0} (q : ℕ) (ts : List (Rec X)) → Each (λ t. Mask (maskIn t)) ts → Masked (own q ts)
 own-masked q [] h = tt
 own-masked {X} q (rec s m x ∷ ts) h = go (eqb s q) (own-masked q ts (h .1))
   where
@@ -54,14 +54,14 @@ own-k k q (rec s m x ∷ ls) h = go (eqb s q) (own-k k q ls (h .1))
     go false r = r
 
 module _ (b : Bounds) (Q : QSet) (w : WellFormed b Q) where
-  tr-masks : Each (λ (t : TR). Mask (maskIn t)) (Q .inner)
+  pub tr-masks : Each (λ (t : TR). Mask (maskIn t)) (Q .inner)
   tr-masks = go (Q .inner) (trs-fine b Q w) (w .trMasks)
     where
       go : (ts : List TR) → Each (FineTR Q) ts → Each (λ t. maskIn t < 2 ^ 32) ts → Each (λ t. Mask (maskIn t)) ts
       go [] f m = tt
       go (rec s x p ∷ ts) f m = (record { some = f .0 .mask; small = m .0 }, go ts (f .1) (m .1))
 
-  lf-masks : Each (λ (l : LF). Mask (maskIn l)) (Q .leaves)
+  pub lf-masks : Each (λ (l : LF). Mask (maskIn l)) (Q .leaves)
   lf-masks = go (Q .leaves) (lfs-fine b Q w) (w .lfMasks)
     where
       go : (ls : List LF) → Each (FineLF Q) ls → Each (λ l. maskIn l < 2 ^ 32) ls → Each (λ l. Mask (maskIn l)) ls

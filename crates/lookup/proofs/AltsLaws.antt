@@ -56,7 +56,8 @@ map-rows rows masks coefs from (suc count) = ap (λ (us : List (Alt Leaf)). alt 
 
 -- ---- in slices that hold a well-formed set
 module _ {b : Bounds} {Q : QSet} (w : WellFormed b Q) {rows masks : List ℕ} {coefs : List ℤ} {counts first : List ℕ} (h : Holds rows masks coefs counts first Q) (s : ℕ) where
-  all-rows : s < sum (Q .counts) → own s (trRows rows masks 0 (length (Q .inner) + length (Q .leaves))) ≡ movesIn rows masks first s
+  -- the rows between two beginnings are those of one state, of either kind
+  pub all-rows : s < sum (Q .counts) → own s (trRows rows masks 0 (length (Q .inner) + length (Q .leaves))) ≡ movesIn rows masks first s
   all-rows there =
       let r = formed-rises b Q w in
       own-rows rows masks s (length (Q .inner) + length (Q .leaves)) (rising h r s there) ∙ ap₂ (λ (f g : ℕ). altsFrom rows masks f (g - f)) (sym (begin h r s there)) (sym (end h r s there))

@@ -110,7 +110,8 @@ module _ {K J : Type 0} (same : K → K → Bool) (alike : J → J → Bool) (co
         let r = place-code (p .1) ks (t .0 .1) h in
         rw (l, r, placed-code b ks us h (t .1))
 
-  all-code : (i : ℕ) (xs ks : List K) → i < last → Each (P i) xs → Each (P (suc i)) ks
+  -- the states of the next level
+  pub all-code : (i : ℕ) (xs ks : List K) → i < last → Each (P i) xs → Each (P (suc i)) ks
       → (mentionAll alike (B .moves i) (map code ks) (map code xs) ≡ map code (mentionAll same (A .moves i) ks xs)) × Each (P (suc i)) (mentionAll same (A .moves i) ks xs)
   all-code i [] ks l p h = (refl, h)
   all-code i (x ∷ xs) ks l p h =

@@ -26,6 +26,14 @@ level-below i (c ∷ cs) s h = go (ltb s c) refl h (level-below (suc i) cs (s - 
     go true e l ih = omega (arith, ltb-true s c e)
     go false e l ih = omega (arith, ih (omega arith), ltb-false s c e)
 
+pub level-within : (i : ℕ) (cs : List ℕ) (s : ℕ) → s < sum cs → levelIn i cs s < i + length cs
+level-within i [] s h = absurd (omega arith)
+level-within i (c ∷ cs) s h = go (ltb s c) refl (level-within (suc i) cs (s - c))
+  where
+    go : (b : Bool) → ltb s c ≡ b → (s - c < sum cs → levelIn (suc i) cs (s - c) < suc i + length cs) → cond b i (levelIn (suc i) cs (s - c)) < i + suc (length cs)
+    go true e ih = omega arith
+    go false e ih = omega (arith, ih (omega (arith, ltb-false s c e)))
+
 -- a state of the first level listed, and one of a level below it
 pub level-first : (i c : ℕ) (cs : List ℕ) (s : ℕ) → s < c → levelIn i (c ∷ cs) s ≡ i
 level-first i c cs s h = rw (lt-ltb s c h)

@@ -1,1 +1,3 @@
 pub mod TableBuild
+pub mod TableSource
+pub mod TableKeys

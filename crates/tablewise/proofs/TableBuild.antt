@@ -17,10 +17,10 @@ use Rattle.tables.specs.Table.{Holds}
 use Rattle.lookup.specs.Alts.{tableAutomaton}
 use Rattle.lookup.proofs.AltsLaws.{inner-alts, leaf-alts}
 use Rattle.stepwise.specs.Code.{coded}
-use Rattle.stepwise.proofs.StoredLaws.{build-stored}
+use Rattle.stepwise.proofs.StoredLaws.{Light, build-stored}
 
 pub build-table : (b : Bounds) → b .states < radix → (Q : QSet) (w : WellFormed b Q) (rows masks : List ℕ) (coefs : List ℤ) (counts first : List ℕ) → Holds rows masks coefs counts first Q
-    → (g : Gate) → number eqb (coded g (tableAutomaton rows masks coefs first)) 1 (Q .n) 0 (map stored (rootKeys Q)) ≡ buildOf g Q
-build-table b few Q w rows masks coefs counts first h g =
+    → (g : Gate) → Light g → number eqb (coded g (tableAutomaton rows masks coefs first)) 1 (Q .n) 0 (map stored (rootKeys Q)) ≡ buildOf g Q
+build-table b few Q w rows masks coefs counts first h g light =
     build-stored b few Q w (tableAutomaton rows masks coefs first)
-    (λ i q l on. let at : levelOf Q q ≤ Q .n = omega (arith, on .0) in sym (inner-alts w h q at)) (λ q on. sym (leaf-alts w h q (on .0))) g
+    (λ i q l on. let at : levelOf Q q ≤ Q .n = omega (arith, on .0) in sym (inner-alts w h q at)) (λ q on. sym (leaf-alts w h q (on .0))) g light
