@@ -1,5 +1,5 @@
 -- Keys as numbers: a gate's automaton whose states are stored keys.
-use Prim.Native.Nat.{ℕ, _/_, _%_, _-_}
+use Prim.Native.Nat.{ℕ, _/_, _%_, _-_, _<_}
 use mathlib.Core.Bool.{cond}
 use lib.Dec.{eqb}
 use Rattle.automata.specs.Choice.{mapAlt}
@@ -26,6 +26,12 @@ unstored x =
     (cond (eqb (tagIn x) 2) (pair (firstIn x) (secondIn x) L)
     (cond (eqb (tagIn x) 3) (pair (firstIn x) (secondIn x) R)
     (shifted (tagIn x - 4) (firstIn x)))))
+
+-- a stored key of states below a number
+pub record KeyOf (states x : ℕ) : Type 0 where
+  pub tag : tagIn x < 260
+  pub first : firstIn x < states
+  pub second : secondIn x < states
 
 abbrev pub storedTwo : Two → ℕ × ℕ
 storedTwo p = (stored (p .0), stored (p .1))

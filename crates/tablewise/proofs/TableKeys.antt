@@ -18,7 +18,7 @@ use Rattle.gates.specs.Build.{rootKeys}
 use Rattle.tables.specs.Table.{Holds}
 use Rattle.lookup.specs.Alts.{tableAutomaton}
 use Rattle.lookup.proofs.AltsLaws.{inner-alts, leaf-alts}
-use Rattle.stepwise.specs.Code.{tagIn, firstIn, secondIn, coded}
+use Rattle.stepwise.specs.Code.{KeyOf, coded}
 use Rattle.stepwise.proofs.CodeLaws.{digits}
 use Rattle.stepwise.proofs.StoredLaws.{Light, Numbers, OnLevel, set-down, roots-on, next-stored}
 
@@ -27,12 +27,6 @@ pub record StatesOf (Q : QSet) (i : ℕ) (xs : List ℕ) : Type 0 where
   pub keys : List Key
   pub are : xs ≡ map stored keys
   pub each : Each (Numbers (OnLevel Q i)) keys
-
--- both numbers of a stored key are below `states`, and its tag is that of a kind
-pub record KeyOf (states x : ℕ) : Type 0 where
-  pub tag : tagIn x < 260
-  pub first : firstIn x < states
-  pub second : secondIn x < states
 
 module _ {b : Bounds} (few : b .states < radix) {Q : QSet} (w : WellFormed b Q) where
   pub root-states : StatesOf Q 1 (map stored (rootKeys Q))
