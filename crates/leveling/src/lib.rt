@@ -8,10 +8,13 @@ use roles::PAIR_L;
 use roles::PAIR_R;
 use roles::Role;
 use roles::Side;
+ghost use mathlib.Core.Path.{_≡_};
+ghost use mathlib.Core.Bool.{true};
 ghost use Prim.Native.Nat.{_<_};
 ghost use lib.Dec.{eqb};
 ghost use lib.ListN.{take};
 ghost use Rattle.automata.specs.Choice.{mapAlt, together};
+ghost use Rattle.gates.specs.Key.{sideTag};
 ghost use Rattle.gates.specs.Roles.{pairKids};
 ghost use Rattle.stepwise.specs.Grow.{growState, growAll};
 ghost use Rattle.roles.specs.Kept.{roleIs, sideIs, singleKids};
@@ -19,7 +22,7 @@ ghost use Rattle.growing.specs.Growing.{levelIn, Growing, Kept, Grew};
 ghost use Rattle.lookup.specs.Alts.{movesIn};
 ghost use Rattle.stepwise.specs.Code.{KeyOf};
 ghost use Rattle.moving.specs.Moves.{movesOf, growAlts, Source};
-ghost use Rattle.leveling.specs.Keyed.{Keyed};
+ghost use Rattle.leveling.specs.Keyed.{isPair, Keyed};
 
 // The records of a state that is no pair, of the old state q. `first` says where the rows of each old state begin, of which there are `states`.
 fn grow_one(
@@ -118,6 +121,17 @@ fn grow_both(
     )
 }
 
+// The side in a pair's tag.
+fn side_of(tag: u16) -> Side
+    requires { ⌜ isPair tag ≡ true ⌝ }
+    ensures { λ r. ⌜ tag ≡ sideTag (sideIs r) ⌝ }
+{
+    if tag == PAIR_L {
+        return Side::L;
+    }
+    Side::R
+}
+
 // The records of the state that a stored key names.
 pub fn grow_state(
     old: &[u16],
@@ -146,7 +160,8 @@ pub fn grow_state(
     let tag = (key / 65536 / 65536) as u16;
     let q = (key / 65536 % 65536) as u16;
     let p = (key % 65536) as u16;
-    if tag == PAIR_L {
+    if (tag == PAIR_L) | (tag == PAIR_R) {
+        let side = side_of(tag);
         return grow_both(
             old,
             oldmasks,
@@ -155,27 +170,7 @@ pub fn grow_state(
             q,
             p,
             role,
-            Side::L,
-            rows,
-            masks,
-            keys,
-            link,
-            heads,
-            done,
-            most,
-            state,
-        );
-    }
-    if tag == PAIR_R {
-        return grow_both(
-            old,
-            oldmasks,
-            first,
-            states,
-            q,
-            p,
-            role,
-            Side::R,
+            side,
             rows,
             masks,
             keys,
