@@ -48,7 +48,7 @@ fn put_u16(out: &mut [u8], x: u16)
 }
 
 // A number's four bytes, the lowest first.
-fn put_u32(out: &mut [u8], x: u32)
+pub fn put_u32(out: &mut [u8], x: u32)
     requires { ⌜ 4 ≤ length (now out) ⌝ }
     ensures { λ _. ⌜ now (out .exit) ≡ atFront (bytes32 x) (now (out .entry)) ⌝ }
 {

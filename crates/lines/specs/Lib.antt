@@ -1,0 +1,4 @@
+pub mod Divided
+pub mod Numeral
+pub mod Put
+pub mod Printed
