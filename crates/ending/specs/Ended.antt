@@ -1,4 +1,4 @@
--- Document 01, "Replies" 14 and 16 at the leaves: LF records written one after the other into lent slices, and what a step that is to add some leaves.
+-- Document 01, "Replies" 14 and 16 at the leaves: LF records written one after the other into lent slices, and what is so after a step that is to add some.
 use mathlib.Core.Path.{_≡_}
 use mathlib.Core.Bool.{true, false, _&&_}
 use mathlib.Core.List.{List, _++_}
