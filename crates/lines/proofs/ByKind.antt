@@ -1,9 +1,9 @@
 -- The words of each kind of reply, and of a lent slice that has room or has not: each test picks its case. Assumes nothing.
-use mathlib.Core.Path.{_≡_, refl, sym, _∙_}
+use mathlib.Core.Path.{_≡_}
 use mathlib.Core.Bool.{true, false}
 use mathlib.Core.List.{List, [], _∷_, _++_}
 use Prim.Native.Nat.{ℕ}
-use lib.ListN.{length, take}
+use lib.ListN.{take}
 use borrow.Author.Tests.{ne-eqb}
 use Rattle.replies.specs.declared.Reply.{Reply}
 use Rattle.lines.specs.Numeral.{fieldsOf}

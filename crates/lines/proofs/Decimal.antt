@@ -24,7 +24,8 @@ digits-more : (most n : ℕ) → 10 ≤ n → digits (suc most) n ≡ digits mos
 digits-more most n h = rw (le-ltb n 10 h, digits)
 
 -- more turns than digits change nothing
-enough-step : (k n : ℕ) (b : Bool) → ltb n 10 ≡ b → (10 ≤ n → digits k (n / 10) ≡ digits (suc k) (n / 10)) → digits (suc k) n ≡ digits (suc (suc k)) n
+enough-step : (k n : ℕ) (b : Bool) → ltb n 10 ≡ b → (10 ≤ n → digits k (n / 10) ≡ digits (suc k) (n / 10))
+    → digits (suc k) n ≡ digits (suc (suc k)) n
 enough-step k n true e tenth = let small = ltb-true n 10 e in digits-one k n small ∙ sym (digits-one (suc k) n small)
 enough-step k n false e tenth =
     let large = ltb-false n 10 e in
@@ -34,7 +35,8 @@ enough : (k n : ℕ) → n < tens (suc k) → digits (suc k) n ≡ digits (suc (
 enough zero n h = enough-step zero n (ltb n 10) refl (λ large. absurd (omega arith))
 enough (suc k) n h = enough-step (suc k) n (ltb n 10) refl (λ large. enough k (n / 10) (omega arith))
 
-few-step : (most k n : ℕ) (b : Bool) → ltb n 10 ≡ b → (10 ≤ n → length (digits most (n / 10)) ≤ k) → length (digits (suc most) n) ≤ suc k
+few-step : (most k n : ℕ) (b : Bool) → ltb n 10 ≡ b → (10 ≤ n → length (digits most (n / 10)) ≤ k)
+    → length (digits (suc most) n) ≤ suc k
 few-step most k n true e tenth = rw (digits-one most n (ltb-true n 10 e)) (omega arith)
 few-step most k n false e tenth =
     let large = ltb-false n 10 e in
@@ -62,9 +64,6 @@ numeral-few k n h = few 20 k n h
 
 pub few8 : (n : ℕ) → n < 256 → length (numeral n) ≤ 3
 few8 n h = numeral-few 2 n (omega arith)
-
-pub few16 : (n : ℕ) → n < 65536 → length (numeral n) ≤ 5
-few16 n h = numeral-few 4 n (omega arith)
 
 pub few32 : (n : ℕ) → n < 4294967296 → length (numeral n) ≤ 10
 few32 n h = numeral-few 9 n (omega arith)
@@ -104,7 +103,8 @@ drop-set (x ∷ l) zero d h = refl
 drop-set (x ∷ l) (suc i) d h = drop-set l i d (omega arith)
 
 -- a store behind a front that is still to come is one byte more of that front
-set-front : (front out : List ℕ) (d : ℕ) → length front < length out → atFront front (set out (length front) d) ≡ atFront (front ++ (d ∷ [])) out
+set-front : (front out : List ℕ) (d : ℕ) → length front < length out
+    → atFront front (set out (length front) d) ≡ atFront (front ++ (d ∷ [])) out
 set-front front out d h =
     let long : length (front ++ (d ∷ [])) ≡ suc (length front) = length-append front (d ∷ []) ∙ omega arith in
     rw (drop-set out (length front) d h, long, append-assoc front (d ∷ []))
@@ -118,7 +118,8 @@ pub record Writing (n : ℕ) (entry out : List ℕ) (left at : ℕ) : Type 0 whe
   pub long : length out ≡ length entry
   pub is : atFront (numeral left) out ≡ atFront (numeral n) entry
 
-pub write-begin : (n : ℕ) (entry : List ℕ) {count : ℕ} → n < 4294967296 → count ≡ length (numeral n) → count ≤ length entry → Writing n entry entry n count
+pub write-begin : (n : ℕ) (entry : List ℕ) {count : ℕ} → n < 4294967296 → count ≡ length (numeral n) → count ≤ length entry
+    → Writing n entry entry n count
 write-begin n entry h e k = record { small = h; within = omega arith; here = e; room = k; long = refl; is = refl }
 
 module _ {n left at : ℕ} {entry out : List ℕ} (p : Writing n entry out left at) where
@@ -138,7 +139,8 @@ module _ {n left at : ℕ} {entry out : List ℕ} (p : Writing n entry out left 
       let more = more-long left h below in
       let at-is : at - 1 ≡ length (numeral (left / 10)) = omega arith in
       let put : atFront (numeral (left / 10)) (set out (at - 1) d) ≡ atFront (numeral left) out =
-      rw (at-is, e) (set-front (numeral (left / 10)) out (48 + left % 10) (omega arith) ∙ ap (λ (l : List ℕ). atFront l out) (sym (numeral-more left h below))) in
+      rw (at-is, e) (set-front (numeral (left / 10)) out (48 + left % 10) (omega arith)
+      ∙ ap (λ (l : List ℕ). atFront l out) (sym (numeral-more left h below))) in
       record {
         small = s;
         within = omega arith;

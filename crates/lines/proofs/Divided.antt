@@ -1,12 +1,12 @@
 -- An input that is not refused holds its three parts, one after the other, and no more: the parts that `divide` gives the places of are the
 -- definitions' own. Assumes nothing.
 use mathlib.Core.Path.{_≡_, refl, sym, ap, subst, _∙_}
-use mathlib.Core.Bool.{Bool, true, false, cond, _&&_}
+use mathlib.Core.Bool.{Bool, true, false, _&&_}
 use mathlib.Core.List.{List}
 use Prim.Native.Nat.{ℕ, _+_, _-_, _≤_, _<_}
 use native.Mathlib.Omega.{arith}
 use lib.ListN.{length, take, drop}
-use lib.Dec.{eqb, leb}
+use lib.Dec.{leb}
 use borrow.Author.Tests.{eqb-true, le-leb, lt-leb}
 use Rattle.amplitude.proofs.Equal.{both}
 use Rattle.stored.specs.Fields.{u32At, markAt}
@@ -20,7 +20,8 @@ too-short : (s : List ℕ) → leb fixedSize (length s) ≡ false → inputOk s 
 unfolding inputOk
 too-short s e = rw e
 
-long-enough : (s : List ℕ) → leb fixedSize (length s) ≡ true → inputOk s ≡ (markAt 74 66 s 0 && lengthsFit (length s) (u32At s 6) (u32At s 10) (u32At s 14))
+long-enough : (s : List ℕ) → leb fixedSize (length s) ≡ true
+    → inputOk s ≡ (markAt 74 66 s 0 && lengthsFit (length s) (u32At s 6) (u32At s 10) (u32At s 14))
 unfolding inputOk lengthsFit
 long-enough s e = rw e
 

@@ -2,13 +2,13 @@
 -- field puts all of them. Assumes nothing.
 use mathlib.Core.Path.{_≡_, refl, sym, ap, _∙_}
 use mathlib.Core.List.{List, [], _∷_, _++_, append-assoc, append-nil}
-use Prim.Native.Nat.{ℕ, zero, suc, _+_, _-_, _*_, _≤_, _<_}
+use Prim.Native.Nat.{ℕ, _+_, _-_, _*_, _≤_, _<_}
 use native.Mathlib.Numerals.{add-one}
 use native.Mathlib.Omega.{arith}
 use lib.ListN.{length, getD, take, drop}
 use lib.Seq.{take-suc, take-all}
 use borrow.Rule.Slice.PartMut.{putMid}
-use Rattle.lines.specs.Numeral.{numeral, field, fieldsOf}
+use Rattle.lines.specs.Numeral.{field, fieldsOf}
 use Rattle.lines.specs.Put.{Put}
 use Rattle.lines.proofs.Decimal.{few8}
 use Rattle.lines.proofs.Putting.{put-long, put-less, put-as, put-on}
@@ -31,10 +31,8 @@ pub list-begin : (ns entry : List ℕ) → 4 * length ns + 7 ≤ length entry �
 list-begin ns entry h = record { within = omega arith; room = h; long = refl; put = record { count = refl; few = omega arith; front = refl } }
 
 module _ {ns entry out : List ℕ} {i at : ℕ} (p : Listing ns entry out i at) where
-  pub list-room : i < length ns → at + 11 ≤ length out
-  list-room h = omega (arith, p .put .few, p .room, p .long)
-
-  pub list-next : {ys : List ℕ} {r : ℕ} → i < length ns → getD ns i 0 < 256 → Put (field (getD ns i 0)) 11 (take (length out - at) (drop at out)) ys r
+  pub list-next : {ys : List ℕ} {r : ℕ} → i < length ns → getD ns i 0 < 256
+      → Put (field (getD ns i 0)) 11 (take (length out - at) (drop at out)) ys r
       → Listing ns entry (putMid at (length out - at) out ys) (i + 1) (at + r)
   list-next {ys} {r} h small q =
       let room = p .room in

@@ -1,20 +1,17 @@
 -- The line of a reply's struct is the reply's line, since the struct has the fields that the line prints; of a word in its 21 places the
 -- choices are the first ones. Assumes nothing.
-use mathlib.Core.Path.{_≡_, refl, sym, ap, _∙_}
-use mathlib.Core.Bool.{true, _&&_}
+use mathlib.Core.Path.{_≡_, refl, ap, _∙_}
+use mathlib.Core.Bool.{true}
 use mathlib.Core.List.{List, [], _∷_, _++_}
 use Prim.Native.Nat.{ℕ, _≤_}
-use native.Mathlib.Omega.{arith}
-use lib.ListN.{length, take, drop, replicate, length-append}
+use lib.ListN.{length, take, drop, replicate}
 use lib.Seq.{take-take, take-append-seam}
-use lib.Dec.{leb}
 use borrow.Author.Tests.{le-leb}
 use Rattle.automata.specs.Members.{member}
 use Rattle.verdict.specs.Verdict.{holds, fails, undecided}
 use Rattle.jobs.specs.Reply as def
 use Rattle.jobs.specs.Reply.{refused, made, says, kindOf, numberOf, sourceOf, placeOf, countOf, rootOf, wordOf, wordPlaces, inPlaces}
 use Rattle.jobs.specs.Program.{words, line}
-use Rattle.packing.specs.Written.{atFront}
 use Rattle.replies.specs.declared.Reply.{Reply}
 use Rattle.replies.specs.Replied.{replyFrom}
 use Rattle.lines.specs.Numeral.{numeral, fieldsOf}
@@ -46,7 +43,8 @@ unfolding lineOf line
 line-of r n h e = ap (λ (l : List ℕ). l ++ (10 ∷ [])) (words-of r n h e)
 
 -- what `put_line` leaves and returns, for the reply that its struct is
-module _ {reply : Reply} (r : def.Reply) (n : ℕ) (out : List ℕ) (is : reply ≡ replyFrom r) (few : n ≤ wordPlaces) (has : Choices n r) (room : lineRoom ≤ length out) where
+module _ {reply : Reply} (r : def.Reply) (n : ℕ) (out : List ℕ) (is : reply ≡ replyFrom r) (few : n ≤ wordPlaces) (has : Choices n r)
+    (room : lineRoom ≤ length out) where
   fitting : fits n out ≡ true
   fitting = rw (le-leb lineRoom (length out) room, le-leb n wordPlaces few)
 

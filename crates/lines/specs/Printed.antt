@@ -31,6 +31,13 @@ wordsOf r choices =
     (cond (eqb (r .kind) 3) (failsName ++ fieldsOf (r .count ∷ r .root ∷ take choices (r .word)))
     (undecidedName ++ fieldsOf (r .count ∷ [])))))
 
+-- the longest words: `fails`, two fields of at most 11 bytes, and 21 of at most 4; the last field is lent 7 bytes more than it can use
+abbrev pub wordsMost : ℕ
+wordsMost = 111
+
+abbrev pub wordsRoom : ℕ
+wordsRoom = 118
+
 unfoldable pub lineOf : Reply → ℕ → List ℕ
 lineOf r choices = wordsOf r choices ++ (10 ∷ [])
 

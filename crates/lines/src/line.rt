@@ -1,6 +1,7 @@
 // The program's line: "`holds` count; `fails` place, root, the word's n+1 choices; `undecided` count; or `refused` number, source, place.
 // Single spaces between fields." Each function writes at the front of what it is lent and lends the unwritten tail on, so that none can
-// reach what an earlier one wrote; it returns how many bytes it wrote. Only `put_line` is public, and it asks nothing of its caller.
+// reach what an earlier one wrote; it returns how many bytes it wrote. `put_line`, the only public function,
+// asks nothing of its caller.
 use crate::digits::put_decimal;
 use replies::FAILS;
 use replies::HOLDS;
@@ -15,7 +16,7 @@ ghost use lib.ListN.{length, take};
 ghost use Rattle.jobs.specs.Reply.{wordPlaces};
 ghost use Rattle.lines.specs.Numeral.{field, fieldsOf};
 ghost use Rattle.lines.specs.Put.{Put};
-ghost use Rattle.lines.specs.Printed.{refusedName, failsName, wordsOf, lineOf, lineRoom, printedIn, printedLength};
+ghost use Rattle.lines.specs.Printed.{refusedName, failsName, wordsOf, wordsMost, wordsRoom, lineOf, lineRoom, printedIn, printedLength};
 
 // Room for every line.
 pub const LINE_ROOM: usize = 160;
@@ -69,8 +70,8 @@ fn put_refused(out: &mut [u8], number: u8, source: u8, place: u32) -> usize
 
 // "`fails` place, root, the word's n+1 choices": of the word's places as many as are asked for.
 fn put_fails(out: &mut [u8], place: u32, root: u16, word: &[u8], choices: usize) -> usize
-    requires { ⌜ (118 ≤ length (now out)) × (choices ≤ wordPlaces) × (choices ≤ length (now word)) ⌝ }
-    ensures { λ r. ⌜ Put (failsName ++ fieldsOf (place ∷ root ∷ take choices (now (word .entry)))) 111 (now (out .entry)) (now (out .exit)) r ⌝ }
+    requires { ⌜ (wordsRoom ≤ length (now out)) × (choices ≤ wordPlaces) × (choices ≤ length (now word)) ⌝ }
+    ensures { λ r. ⌜ Put (failsName ++ fieldsOf (place ∷ root ∷ take choices (now (word .entry)))) wordsMost (now (out .entry)) (now (out .exit)) r ⌝ }
 {
     put_bytes(out, b"fails");
     let root_at = 5 + put_field(&mut out[5..], place);
@@ -80,8 +81,8 @@ fn put_fails(out: &mut [u8], place: u32, root: u16, word: &[u8], choices: usize)
 
 // The same of a reply.
 fn put_failed(out: &mut [u8], reply: Reply, choices: u8) -> usize
-    requires { ⌜ (118 ≤ length (now out)) × (choices ≤ wordPlaces) ⌝ }
-    ensures { λ r. ⌜ Put (failsName ++ fieldsOf (reply .count ∷ reply .root ∷ take choices (reply .word))) 111 (now (out .entry)) (now (out .exit)) r ⌝ }
+    requires { ⌜ (wordsRoom ≤ length (now out)) × (choices ≤ wordPlaces) ⌝ }
+    ensures { λ r. ⌜ Put (failsName ++ fieldsOf (reply .count ∷ reply .root ∷ take choices (reply .word))) wordsMost (now (out .entry)) (now (out .exit)) r ⌝ }
 {
     let word = reply.word;
     put_fails(out, reply.count, reply.root, &word, choices as usize)
@@ -89,8 +90,8 @@ fn put_failed(out: &mut [u8], reply: Reply, choices: u8) -> usize
 
 // The words and numbers of a line, by the reply's kind; `made`, which the program never replies, has none.
 fn put_words(out: &mut [u8], reply: Reply, choices: u8) -> usize
-    requires { ⌜ (118 ≤ length (now out)) × (choices ≤ wordPlaces) ⌝ }
-    ensures { λ r. ⌜ Put (wordsOf reply choices) 111 (now (out .entry)) (now (out .exit)) r ⌝ }
+    requires { ⌜ (wordsRoom ≤ length (now out)) × (choices ≤ wordPlaces) ⌝ }
+    ensures { λ r. ⌜ Put (wordsOf reply choices) wordsMost (now (out .entry)) (now (out .exit)) r ⌝ }
 {
     if reply.kind == REFUSED {
         return put_refused(out, reply.number, reply.source, reply.place);

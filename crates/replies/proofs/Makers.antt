@@ -31,6 +31,7 @@ pub is-undecided : (n : ℕ) → counted 4 n ≡ replyFrom (ofUndecided n)
 unfolding kindOf numberOf sourceOf placeOf countOf rootOf wordOf
 is-undecided n = refl
 
-pub is-fails : (place root : ℕ) {word : List ℕ} (w : List ℕ) → word ≡ inPlaces w → failing place root word ≡ replyFrom (ofFails place root w)
+pub is-fails : (place root : ℕ) {word : List ℕ} (w : List ℕ) → word ≡ inPlaces w
+    → failing place root word ≡ replyFrom (ofFails place root w)
 unfolding kindOf numberOf sourceOf placeOf countOf rootOf wordOf
 is-fails place root w e = ap (failing place root) e

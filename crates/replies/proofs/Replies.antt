@@ -3,11 +3,17 @@
 use mathlib.Core.Path.{_≡_, refl, ap, _∙_}
 use mathlib.Core.List.{List}
 use Prim.Native.Nat.{ℕ}
+use Rattle.stored.specs.Refusal.{Refusal}
 use Rattle.jobs.specs.Reply as def
 use Rattle.jobs.specs.Entry.{replyBytes, replyBuffer, replyNumber}
 use Rattle.replies.specs.declared.Reply.{Reply}
-use Rattle.replies.specs.Replied.{replyFrom}
+use Rattle.refusals.specs.Refused.{refusedBy}
+use Rattle.replies.specs.Replied.{replyFrom, ofRefusal}
 use Rattle.replies.specs.Laid.{bytesOf, laid, told}
+
+-- a refusal of the code is the definitions' own
+pub of-refusal : (d : Refusal) → ofRefusal (refusedBy d) ≡ def.refused d
+of-refusal d = refl
 
 pub bytes-of : (r : def.Reply) → bytesOf (replyFrom r) ≡ replyBytes r
 unfolding bytesOf replyBytes

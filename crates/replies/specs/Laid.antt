@@ -10,7 +10,8 @@ use Rattle.replies.specs.declared.Reply.{Reply}
 
 -- kind, number, source, a zero byte, place, count, root, word, the rest zero
 unfoldable pub bytesOf : Reply → List ℕ
-bytesOf r = r .kind ∷ r .number ∷ r .source ∷ 0 ∷ (bytes32 (r .place) ++ (bytes32 (r .count) ++ (bytes32 (r .root) ++ (r .word ++ replicate 27 0))))
+bytesOf r =
+    r .kind ∷ r .number ∷ r .source ∷ 0 ∷ (bytes32 (r .place) ++ (bytes32 (r .count) ++ (bytes32 (r .root) ++ (r .word ++ replicate 27 0))))
 
 -- "a shorter one gives 17 and stays"
 unfoldable pub laid : Reply → List ℕ → List ℕ

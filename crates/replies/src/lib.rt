@@ -1,6 +1,7 @@
 // A reply, as the code hands it on, and the 64 bytes that the C entry writes of it: document 01, "Replies", and docs/REPLY.md. One struct
 // serves every job. `replyFrom` of specs/Replied.antt is the struct of a reply of the definitions, and each maker's promise names it.
 // Only `put_bytes` has a `requires`: a reply buffer may be of any length.
+use bytes::copy;
 use packing::put_u32;
 use refusals::Refusal;
 use wiping::zero_front_u8;
@@ -110,11 +111,7 @@ pub fn put_bytes(out: &mut [u8], bytes: &[u8])
     requires { ⌜ length (now bytes) ≤ length (now out) ⌝ }
     ensures { λ _. ⌜ now (out .exit) ≡ atFront (now (bytes .entry)) (now (out .entry)) ⌝ }
 {
-    let mut i = 0;
-    while i < bytes.len() {
-        out[i] = bytes[i];
-        i += 1;
-    }
+    copy(bytes, out);
 }
 
 // The first four bytes: "kind, number, source, a zero byte".

@@ -12,4 +12,7 @@ returns : tie.Need-returns
 returns c = let a = c .args in stored (a .kind ∷ a .number ∷ a .source ∷ 0 ∷ []) (now (a .out)) (c .pre)
 
 pub put-kind-spec : {M : Type 1} → statement M
-put-kind-spec = tie.close (tie.spec (λ c. search needs) (λ c. simp length-set (omega arith)) (λ c. simp length-set (omega arith)) (λ c. search needs) (λ c. search needs) returns)
+put-kind-spec =
+    tie.close
+    (tie.spec (λ c. search needs) (λ c. simp length-set (omega arith)) (λ c. simp length-set (omega arith)) (λ c. search needs)
+    (λ c. search needs) returns)

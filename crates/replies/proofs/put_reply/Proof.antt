@@ -1,9 +1,5 @@
 -- `replies::put_reply` meets its contract: a buffer of 64 bytes or more has the reply at its front, and a shorter one is not touched.
 -- Assumes nothing.
-use mathlib.Core.Path.{_≡_, refl, ap, _∙_}
-use lib.ListN.{length}
-use lib.Dec.{leb}
-use denote.Ref.{now}
 use borrow.Author.Needs.{needs}
 use borrow.Author.Tests.{le-leb, lt-leb}
 use Rattle.replies.specs.Laid.{bytesOf, laid, told}

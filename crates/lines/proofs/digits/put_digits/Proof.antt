@@ -36,4 +36,5 @@ returns c = let t = c .before in write-all (t .before .loop .inv) (t .loop-test 
 pub put-digits-spec : {M : Type 1} → statement M
 put-digits-spec =
     tie.close
-    (tie.spec Inv-loop μ-loop loop-holds sub-at (λ c κs. search needs) slice-write-out (λ c. search needs) loop-again (λ c κs. search needs) slice-write-out-2 (λ c. search needs) returns)
+    (tie.spec Inv-loop μ-loop loop-holds sub-at (λ c κs. search needs) slice-write-out (λ c. search needs) loop-again
+    (λ c κs. search needs) slice-write-out-2 (λ c. search needs) returns)

@@ -4,7 +4,7 @@ use native.Mathlib.Omega.{arith}
 use lib.ListN.{length}
 use denote.Ref.{now}
 use borrow.Author.Needs.{needs}
-use Rattle.lines.proofs.Fields.{Listing, list-begin, list-room, list-next, list-all}
+use Rattle.lines.proofs.Fields.{Listing, list-begin, list-next, list-all}
 use Rattle.lines.proofs.line.put_fields.Statement.{statement}
 use Rattle.lines.proofs.line.put_fields.Tie as tie
 
@@ -33,4 +33,6 @@ returns c = list-all (c .before .loop .inv) (c .loop-test .left)
 pub put-fields-spec : {M : Type 1} → statement M
 put-fields-spec =
     tie.close
-    (tie.spec Inv-loop μ-loop loop-holds (λ c. search needs) (λ c. search needs) (λ c. search needs) (λ c. search needs) cast-put-field (λ c κs. search needs) (λ c. search needs) (λ c. search needs) (λ c. search needs) loop-again (λ c. search needs) returns)
+    (tie.spec Inv-loop μ-loop loop-holds (λ c. search needs) (λ c. search needs) (λ c. search needs) (λ c. search needs)
+    cast-put-field (λ c κs. search needs) (λ c. search needs) (λ c. search needs) (λ c. search needs) loop-again
+    (λ c. search needs) returns)

@@ -1,5 +1,4 @@
 -- `lines::line::put_line` meets its contract: where there is room the line is put, else nothing. Assumes nothing.
-use native.Mathlib.Omega.{arith}
 use lib.ListN.{length}
 use lib.Dec.{leb}
 use denote.Ref.{now}

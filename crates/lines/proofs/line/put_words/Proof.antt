@@ -12,7 +12,8 @@ returns c =
     let p = c .before .before in
     let t = p .before .before in
     let a = t .before .before .before .args in
-    put-as (put-less (p .put-refused .ensures) 111 (omega (arith, p .put-refused .ensures .few))) (words-refused (a .reply) (a .choices) (t .if1 .taken))
+    put-as (put-less (p .put-refused .ensures) 111 (omega (arith, p .put-refused .ensures .few)))
+    (words-refused (a .reply) (a .choices) (t .if1 .taken))
 
 returns-2 : tie.Need-returns-2
 returns-2 c =
@@ -47,4 +48,6 @@ returns-5 c =
 pub put-words-spec : {M : Type 1} → statement M
 put-words-spec =
     tie.close
-    (tie.spec (λ c κs. search needs) (λ c. search needs) returns returns-2 (λ c. search needs) (λ c κs. search needs) (λ c. search needs) returns-3 (λ c κs. search needs) (λ c. search needs) returns-4 (λ c. search needs) (λ c κs. search needs) (λ c. search needs) returns-5)
+    (tie.spec (λ c κs. search needs) (λ c. search needs) returns returns-2 (λ c. search needs) (λ c κs. search needs)
+    (λ c. search needs) returns-3 (λ c κs. search needs) (λ c. search needs) returns-4 (λ c. search needs)
+    (λ c κs. search needs) (λ c. search needs) returns-5)
