@@ -1,0 +1,1 @@
+// No code: what it means that a set stands in lent slices (specs/Standing.antt).
