@@ -100,3 +100,37 @@ pub fn zero_front_i32(buf: &mut [i32], n: usize)
 {
     wipe_i32(&mut buf[..n]);
 }
+
+// Every cell of a table's five slices is 0.
+pub fn wipe_table(
+    rows: &mut [u16],
+    masks: &mut [u32],
+    coefs: &mut [i32],
+    counts: &mut [u16],
+    first: &mut [u16],
+)
+    ensures { λ _. ⌜ now (rows .exit) ≡ replicate (length (now (rows .entry))) 0 ⌝ }
+    ensures { λ _. ⌜ now (masks .exit) ≡ replicate (length (now (masks .entry))) 0 ⌝ }
+    ensures { λ _. ⌜ now (coefs .exit) ≡ replicate (length (now (coefs .entry))) (pos 0) ⌝ }
+    ensures { λ _. ⌜ now (counts .exit) ≡ replicate (length (now (counts .entry))) 0 ⌝ }
+    ensures { λ _. ⌜ now (first .exit) ≡ replicate (length (now (first .entry))) 0 ⌝ }
+{
+    wipe_u16(rows);
+    wipe_u32(masks);
+    wipe_i32(coefs);
+    wipe_u16(counts);
+    wipe_u16(first);
+}
+
+// Every cell of two lists of keys and of their chains is 0.
+pub fn wipe_lists(cur: &mut [u64], next: &mut [u64], link: &mut [u16], heads: &mut [u16])
+    ensures { λ _. ⌜ now (cur .exit) ≡ replicate (length (now (cur .entry))) 0 ⌝ }
+    ensures { λ _. ⌜ now (next .exit) ≡ replicate (length (now (next .entry))) 0 ⌝ }
+    ensures { λ _. ⌜ now (link .exit) ≡ replicate (length (now (link .entry))) 0 ⌝ }
+    ensures { λ _. ⌜ now (heads .exit) ≡ replicate (length (now (heads .entry))) 0 ⌝ }
+{
+    wipe_u64(cur);
+    wipe_u64(next);
+    wipe_u16(link);
+    wipe_u16(heads);
+}

@@ -1,0 +1,6 @@
+pub mod Roots
+pub mod OldTable
+pub mod NewTable
+pub mod OneGate
+pub mod ReadGates
+pub mod Results
