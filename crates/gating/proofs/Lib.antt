@@ -1,0 +1,3 @@
+pub mod OneRead
+pub mod Storing
+pub mod GateOn
