@@ -1,0 +1,4 @@
+pub mod Records
+pub mod Turns
+pub mod Circuits
+pub mod Told

@@ -1,0 +1,59 @@
+// What the release tool calls: document 01, "The release tool is written in C and calls both jobs with byte slices and numbers. Its entry lends the
+// work buffers itself and writes the reply into a lent byte buffer". The header is include/zhargutai.h, the reply's layout docs/REPLY.md.
+use onegate::one_gate;
+use replies::REPLY_SIZE;
+use replies::put_reply;
+ghost use mathlib.Core.Path.{_≡_};
+ghost use Rattle.jobs.specs.Entry.{oneGateEntry, oneGateEntryNumber, oneGateEntryOutput};
+
+// The one-gate job. The number of the reply comes back, 0 where nothing was refused; a reply buffer under 64 bytes gives 17, and nothing is
+// written.
+#[no_mangle]
+pub extern "C" fn zhargutai_one_gate(
+    set: &[u8],
+    circuit: &[u8],
+    output: &mut [u8],
+    reply: &mut [u8],
+) -> u32
+    ensures { λ r. ⌜ r ≡ oneGateEntryNumber (now (set .entry)) (now (circuit .entry)) (now (output .entry)) (now (reply .entry)) ⌝ }
+    ensures { λ _. ⌜ now (output .exit) ≡ oneGateEntryOutput (now (set .entry)) (now (circuit .entry)) (now (output .entry)) (now (reply .entry)) ⌝ }
+    ensures { λ _. ⌜ now (reply .exit) ≡ oneGateEntry (now (set .entry)) (now (circuit .entry)) (now (output .entry)) (now (reply .entry)) ⌝ }
+{
+    if reply.len() < REPLY_SIZE {
+        return 17;
+    }
+    let mut old = [0u16; 9216];
+    let mut oldmasks = [0u32; 3072];
+    let mut numbers = [0i32; 4096];
+    let mut oldcounts = [0u16; 21];
+    let mut first = [0u16; 1025];
+    let mut rows = [0u16; 9216];
+    let mut masks = [0u32; 3072];
+    let mut coefs = [0i32; 4096];
+    let mut counts = [0u16; 21];
+    let mut newfirst = [0u16; 1025];
+    let mut cur = [0u64; 1026];
+    let mut next = [0u64; 1026];
+    let mut link = [0u16; 1026];
+    let mut heads = [0u16; 1024];
+    let told = one_gate(
+        set,
+        circuit,
+        output,
+        &mut old,
+        &mut oldmasks,
+        &mut numbers,
+        &mut oldcounts,
+        &mut first,
+        &mut rows,
+        &mut masks,
+        &mut coefs,
+        &mut counts,
+        &mut newfirst,
+        &mut cur,
+        &mut next,
+        &mut link,
+        &mut heads,
+    );
+    put_reply(reply, told)
+}
