@@ -135,4 +135,5 @@ def main(top):
     write(top / "mutations/stdout", "".join(f"{l}\n" for l in lines).encode())
 
 
-main(sys.argv[1])
+if __name__ == "__main__":
+    main(sys.argv[1])

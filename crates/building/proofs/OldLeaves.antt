@@ -36,7 +36,7 @@ each-record P f from (suc count) h (suc i) lt = let e : from + suc i ≡ from + 
 
 module _ {b : Bounds} {Q : QSet} (w : WellFormed b Q) {rows masks : List ℕ} {coefs : List ℤ} {counts first : List ℕ} (u : Unpacked rows masks coefs counts first Q)
     (room : Roomy rows masks coefs counts first (Q .n) (sum (Q .counts)) (length (Q .inner)) (length (Q .leaves))) where
-  tr-at : (i : ℕ) → i < length (Q .inner) → FineTR Q (trRow rows masks i)
+  pub tr-at : (i : ℕ) → i < length (Q .inner) → FineTR Q (trRow rows masks i)
   unfolding tableSet trRows
   tr-at i lt =
       let e : 0 + i ≡ i = omega arith in
@@ -47,7 +47,7 @@ module _ {b : Bounds} {Q : QSet} (w : WellFormed b Q) {rows masks : List ℕ} {c
   unfolding tableSet
   leaves-are = sym (ap (λ (T : QSet). T .leaves) (u .holds .is))
 
-  lf-at : (P : LF → Type 0) → Each P (Q .leaves) → (j : ℕ) → j < length (Q .leaves) → P (lfRow rows masks coefs (length (Q .inner) + j))
+  pub lf-at : (P : LF → Type 0) → Each P (Q .leaves) → (j : ℕ) → j < length (Q .leaves) → P (lfRow rows masks coefs (length (Q .inner) + j))
   unfolding lfRows
   lf-at P h j lt = each-record P (lfRow rows masks coefs) (length (Q .inner)) (length (Q .leaves)) (subst (Each P) leaves-are h) j lt
 

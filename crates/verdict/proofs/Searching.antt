@@ -66,11 +66,11 @@ module _ (S E : Automaton ℕ) where
   inRow i n w v none = false
   inRow i n w v (some row) = allMatch i n w v row
 
-  no-tree : (n : ℕ) (x : Option (Tree n)) → sameTrees n x none ≡ false
+  pub no-tree : (n : ℕ) (x : Option (Tree n)) → sameTrees n x none ≡ false
   no-tree n none = refl
   no-tree n (some x) = refl
 
-  two-trees : (n : ℕ) (a b c d : Option (Tree n)) → sameTrees (suc n) (node a b) (node c d) ≡ sameTrees n a c && sameTrees n b d
+  pub two-trees : (n : ℕ) (a b c d : Option (Tree n)) → sameTrees (suc n) (node a b) (node c d) ≡ sameTrees n a c && sameTrees n b d
   two-trees n none b c d = refl
   two-trees n (some a) none c d = sym (and-false (sameTrees n (some a) c))
   two-trees n (some a) (some b) none d = refl

@@ -1,0 +1,82 @@
+/* The C interface of the checker: what a caller lends, what comes back, and in which bytes.
+ *
+ * Link the archive that `rt staticlib release` writes, target/staticlib/librelease.a (x86-64 Linux).
+ *
+ * A byte buffer is passed as a pointer and then its length. A pointer must be valid for that many bytes, and it must not
+ * be null, not even for a length of 0. The lent buffers (output, reply) must not overlap each other or an input. The
+ * contents of the inputs are free: whatever the bytes are, the answer is a reply.
+ */
+#ifndef ZHARGUTAI_H
+#define ZHARGUTAI_H
+
+#include <stddef.h>
+#include <stdint.h>
+
+#ifdef __cplusplus
+extern "C" {
+#endif
+
+/* Size of a reply. A shorter reply buffer gives 17; of a longer one the further bytes stay. */
+#define ZHARGUTAI_REPLY_SIZE 64
+
+/* Size that the output of one gate needs: the longest set file. A shorter output gives 17; of a longer one the further bytes stay. */
+#define ZHARGUTAI_OUTPUT_SIZE 49248
+
+/* Length of a circuit of one gate: "GT", code, target, control, zero. */
+#define ZHARGUTAI_GATE_SIZE 6
+
+/* The reply (docs/REPLY.md). Numbers of more than one byte are little-endian.
+ *
+ *   byte  0        kind, one of those below
+ *   byte  1        number of the refusal, 0 if nothing was refused
+ *   byte  2        its source: 1 start set, 2 circuit, 3 end set, 0 for 13 and 17
+ *   byte  3        zero
+ *   bytes 4 to 7   its place: the gate, from 1, for 12, 14, 15 and 16; else 0
+ *   bytes 8 to 11  count; for `made` the length of the new set; 0 for a refusal
+ *   bytes 12 to 15 root of the first start that fails; else 0
+ *   bytes 16 to 36 its word in 21 places, one choice each; else 0
+ *   bytes 37 to 63 zero
+ */
+#define ZHARGUTAI_REPLY_KIND 0
+#define ZHARGUTAI_REPLY_NUMBER 1
+#define ZHARGUTAI_REPLY_SOURCE 2
+#define ZHARGUTAI_REPLY_PLACE 4
+#define ZHARGUTAI_REPLY_COUNT 8
+#define ZHARGUTAI_REPLY_ROOT 12
+#define ZHARGUTAI_REPLY_WORD 16
+
+/* Kinds of reply. */
+#define ZHARGUTAI_REFUSED 0
+#define ZHARGUTAI_MADE 1
+#define ZHARGUTAI_HOLDS 2
+#define ZHARGUTAI_FAILS 3
+#define ZHARGUTAI_UNDECIDED 4
+
+/* Applies one gate to a set of states.
+ *
+ *   set      a set file (source 1 of a refusal)
+ *   circuit  exactly one gate, ZHARGUTAI_GATE_SIZE bytes (source 2); another length is refused with 11
+ *   output   lent, at least ZHARGUTAI_OUTPUT_SIZE bytes
+ *   reply    lent, at least ZHARGUTAI_REPLY_SIZE bytes
+ *
+ * Returns the number of the refusal, 0 if nothing was refused. The reply says the same and more.
+ *
+ * Nothing refused: the kind is ZHARGUTAI_MADE, the new set is at the front of output, its length is the reply's count,
+ * and all further bytes of output stay as they were.
+ *
+ * Refused: the kind is ZHARGUTAI_REFUSED and every byte of output stays. The numbers are 17 for a short output, tested
+ * before anything else; 1 to 10 for the set; 11 and 12 for the circuit; then 15 (H at k = 64), 14 (the result is over
+ * 1,024 states, 2,048 inner transitions or 1,024 leaf transitions) and 16 (a coefficient would leave its range), in this order.
+ *
+ * A reply buffer under ZHARGUTAI_REPLY_SIZE bytes: 17 is returned and nothing is written anywhere.
+ */
+uint32_t zhargutai_one_gate(const uint8_t *set, size_t set_len,
+                            const uint8_t *circuit, size_t circuit_len,
+                            uint8_t *output, size_t output_len,
+                            uint8_t *reply, size_t reply_len);
+
+#ifdef __cplusplus
+}
+#endif
+
+#endif
