@@ -1,6 +1,6 @@
 -- The search's steps: one level down by a choice of the end set, the last level, and the marks that stay. Assumes nothing.
 use mathlib.Core.Path.{_≡_, refl, sym, ap, ap₂, _∙_}
-use mathlib.Core.Bool.{Bool, true, false, _&&_}
+use mathlib.Core.Bool.{Bool, true, false, _&&_, false≢true}
 use mathlib.Core.List.{List, [], _∷_}
 use mathlib.Core.Option.{Option, none, some}
 use Prim.Native.Nat.{ℕ, zero, suc, _+_, _-_, _*_, _<_, _≤_}
@@ -16,13 +16,16 @@ use Rattle.automata.specs.Tree.{Tree, Automaton, treeOf, node, andThen}
 use Rattle.automata.specs.Members.{choices}
 use Rattle.verdict.specs.Search.{sameLeaves, fitsOne}
 use Rattle.verdict.proofs.Searching.{sameTrees, matches, no-tree, two-trees}
-use Rattle.lookup.specs.Alts.{tableAutomaton}
+use Rattle.lookup.specs.Lookup.{pairRow, isSome}
+use Rattle.lookup.specs.Alts.{altsFrom, tableAutomaton}
 use Rattle.meeting.specs.declared.Level.{Level}
 use Rattle.meeting.specs.Met.{isMet, There}
 use Rattle.meeting.specs.All.{allMet}
 use Rattle.meeting.proofs.Places.{words-before}
-use Rattle.meeting.proofs.MetLaws.{On, Same, met-same}
+use Rattle.meeting.proofs.MetLaws.{On, Same, met-same, met-fails}
 use Rattle.stepping.specs.Step.{kids, kidsIn, Kept, Gone, Stage}
+use Rattle.stepping.proofs.Answers.{has-taken}
+use Rattle.sharing.specs.Shared.{hasChoice, LevelOpen}
 use Rattle.fitting.specs.Fit.{leavesIn, LeafStage}
 use Rattle.matching.specs.Levels.{startOf, IsLevel, NextFits}
 use Rattle.matching.specs.Seeking.{wordFrom, anyWord, twins, sought, tried, Lent, Seeking}
@@ -82,6 +85,11 @@ module _ (S E : Automaton ℕ) where
 pub one-less : (m : ℕ) → (m ≡ 0 → ⊥) → suc (m - 1) ≡ m
 one-less m h = omega arith
 
+kids-there : (g : ℕ → ℕ → Bool) (o p : Option (ℕ × ℕ)) → kids g o p ≡ true → isSome p ≡ true
+kids-there g none p e = absurd (false≢true e)
+kids-there g (some x) none e = e
+kids-there g (some x) (some y) e = refl
+
 -- ---- on tables
 module _ (rows masks : List ℕ) (coefs : List ℤ) (first endRows endMasks : List ℕ) (endCoefs : List ℤ) (endFirst word : List ℕ) where
   abbrev S : Automaton ℕ
@@ -105,6 +113,14 @@ module _ (rows masks : List ℕ) (coefs : List ℤ) (first endRows endMasks : Li
 
   pub seek-left : (at m wide : ℕ) (met : List ℕ) (l : Level) → (m ≡ 0 → ⊥) → fitsOne (λ d. tried S E word at (m - 1) d wide met l) choices ≡ sought S E word at m wide met l
   seek-left at m wide met l h = sym (seek-some S E word at (m - 1) wide met l) ∙ ap (λ (k : ℕ). sought S E word at k wide met l) (one-less m h)
+
+  -- a choice that not all end states have
+  pub no-attempt : (at m d wide : ℕ) (met : List ℕ) (l : Level) → allMet (hasChoice endMasks endFirst d) wide met l ≡ false → false ≡ tried S E word at m d wide met l
+  unfolding altsFrom
+  no-attempt at m d wide met l e =
+      sym (any-none (suc m) (λ v. allMet (twins S E word at (suc m) (d ∷ v)) wide met l)
+      (λ v. met-fails (twins S E word at (suc m) (d ∷ v)) (hasChoice endMasks endFirst d) wide met l
+      (λ s f h. has-taken (pairRow endRows) endMasks endFirst f d ∙ kids-there (twins S E word (at + 1) m v) (choose (getD word at 0) (S .moves (suc at) s)) (choose d (E .moves (suc at) f)) (sym (twins-step S E word at m d v s f) ∙ h)) e))
 
   -- one level down by choice d
   module _ (at m d wide : ℕ) (met : List ℕ) (l : Level) {next : Level} {met′ : List ℕ} {r : Bool}
@@ -168,6 +184,25 @@ module _ {rows masks : List ℕ} {coefs : List ℤ} {counts first endRows endMas
         ends = λ e lo hi. leafy (t .lent .ends) e (rw z (record { after = omega (arith, t .here .start); before = omega (arith, t .here .stop) }));
         there = λ s e lo hi lo′ hi′. record { long = omega (arith, words-before wide s (l .to) hi, long-level 0 t); narrow = omega (arith, small-level 0 t) };
       }
+
+-- the choices of the level's end states can be looked up
+pub level-open : {rows masks : List ℕ} {coefs : List ℤ} {counts first endRows endMasks : List ℕ} {endCoefs : List ℤ} {endCounts endFirst word : List ℕ} {wide size at : ℕ} {l : Level} (m : ℕ)
+    → Seeking rows masks coefs counts first endRows endMasks endCoefs endCounts endFirst word wide size at (suc m) l → LevelOpen endMasks endFirst wide size l
+level-open {wide = wide} {at = at} {l = l} m t = record {
+  each = λ s e lo hi lo′ hi′.
+      let k = inner (t .lent .ends) at e (omega arith) (record { after = omega (arith, t .here .start); before = omega (arith, t .here .stop) }) in
+      record {
+        there = record { long = omega (arith, words-before wide s (l .to) hi, long-level (suc m) t); narrow = omega (arith, small-level (suc m) t) };
+        begun = k .begun;
+        long = k .long;
+      };
+}
+
+-- the choices that all end states have do not change with marks of other levels
+pub shared-same : (endMasks endFirst : List ℕ) (d : ℕ) {wide : ℕ} {met met′ : List ℕ} (l : Level) → l .stop ≤ wide * 32 → Kept wide met (l .to) met′
+    → allMet (hasChoice endMasks endFirst d) wide met l ≡ allMet (hasChoice endMasks endFirst d) wide met′ l
+shared-same endMasks endFirst d {wide} {met} {met′} l small k =
+    sym (met-same (hasChoice endMasks endFirst d) (hasChoice endMasks endFirst d) wide met met′ l (record { each = λ s e on. k .each s e (on .before) (omega (arith, on .endBefore)) }) (λ s e on. refl))
 
 -- the same in a row of marks as long, and of as many levels
 pub again : {rows masks : List ℕ} {coefs : List ℤ} {counts first endRows endMasks : List ℕ} {endCoefs : List ℤ} {endCounts endFirst word : List ℕ} {wide size size′ at m m′ : ℕ} {l : Level}

@@ -2,17 +2,21 @@
 // end set's table: one choice of the end set for all pairs of a level, all pairs of an image state and an end state that must match, and
 // going back over choices. The marks of all levels stand in one lent row.
 use fitting::fit_any;
+use lookup::has_choice;
 use meeting::Level;
 use meeting::meet;
 use meeting::meet_none;
+use sharing::shared_choices;
 use stepping::step_down;
 ghost use mathlib.Core.Path.{_≡_};
 ghost use mathlib.Core.List.{[], _∷_};
 ghost use Prim.Native.Nat.{suc, _+_, _<_};
 ghost use lib.ListN.{length, getD, take};
-ghost use Rattle.automata.specs.Choice.{choicesMost};
+ghost use Rattle.automata.specs.Choice.{choicesMost, has};
 ghost use Rattle.verdict.specs.Search.{found, searched};
 ghost use Rattle.lookup.specs.Alts.{tableAutomaton};
+ghost use Rattle.meeting.specs.All.{allMet};
+ghost use Rattle.sharing.specs.Shared.{hasChoice};
 ghost use Rattle.stepping.specs.Step.{Kept};
 ghost use Rattle.matching.specs.Levels.{IsLevel, NextFits};
 ghost use Rattle.matching.specs.Seeking.{sought, tried, Lent, Seeking};
@@ -33,7 +37,8 @@ fn next_level(counts: &[u16], endcounts: &[u16], at: u8, level: Level) -> Level
     }
 }
 
-// With choice d of the end set on this level, some word of the end set gives equal trees to all pairs that are met on it.
+// With choice d of the end set on this level, some word of the end set gives equal trees to all pairs that are met on it. `shared` has the
+// choices that all end states met on the level have: another one is not tried.
 fn attempt(
     left: u8,
     at: u8,
@@ -52,10 +57,14 @@ fn attempt(
     wide: u16,
     d: u8,
     level: Level,
+    shared: u32,
 ) -> bool
-    requires { ⌜ Seeking (now rows) (now masks) (now coefs) (now counts) (now first) (now endrows) (now endmasks) (now endcoefs) (now endcounts) (now endfirst) (now word) wide (length (now met)) at (suc left) level × (d < choicesMost) ⌝ }
+    requires { ⌜ Seeking (now rows) (now masks) (now coefs) (now counts) (now first) (now endrows) (now endmasks) (now endcoefs) (now endcounts) (now endfirst) (now word) wide (length (now met)) at (suc left) level × (d < choicesMost) × (has shared d ≡ allMet (hasChoice (now endmasks) (now endfirst) d) wide (now met) level) ⌝ }
     ensures { λ r. ⌜ (r ≡ tried (tableAutomaton (now (rows .entry)) (now (masks .entry)) (now (coefs .entry)) (now (first .entry))) (tableAutomaton (now (endrows .entry)) (now (endmasks .entry)) (now (endcoefs .entry)) (now (endfirst .entry))) (now (word .entry)) at left d wide (now (met .entry)) level) × Kept wide (now (met .entry)) (level .to) (now (met .exit)) ⌝ }
 {
+    if !has_choice(shared, d) {
+        return false;
+    }
     let next = next_level(counts, endcounts, at, level);
     let c = word[at as usize];
     if !step_down(
@@ -133,6 +142,7 @@ fn seek(
             level,
         );
     }
+    let shared = shared_choices(endmasks, endfirst, met, wide, level);
     let mut d: u8 = 0;
     while d < 32 {
         if attempt(
@@ -153,6 +163,7 @@ fn seek(
             wide,
             d,
             level,
+            shared,
         ) {
             return true;
         }

@@ -12,9 +12,10 @@ use Rattle.automata.specs.Choice.{has, alt, mapO, choose}
 use Rattle.stored.specs.Fields.{recordsFrom}
 use Rattle.lookup.specs.declared.Found.{Found}
 use Rattle.lookup.specs.declared.Found.the-variants.{Row, Nothing}
-use Rattle.lookup.specs.Lookup.{rowWith, transitionRow}
+use Rattle.lookup.specs.Lookup.{rowWith, transitionRow, choicesOf, isSome}
 use Rattle.lookup.specs.Answer.{found}
 use Rattle.lookup.proofs.Finding.{scan-hits}
+use Rattle.lookup.proofs.Unions.{union-has, some-map}
 
 found-row : (o : Option ℕ) (i : ℕ) → found o ≡ Row i → o ≡ some i
 found-row none i e = let z : _≡_ {A = ℕ} 0 1 = cc in absurd (omega arith)
@@ -54,3 +55,10 @@ module _ {X : Type 0} (f : ℕ → X) (masks first : List ℕ) (s c : ℕ) {a : 
 
   pub not-taken : a ≡ Nothing → choose c (recordsFrom (λ (j : ℕ). alt (getD masks j 0) (f j)) (getD first s 0) 1 (getD first (s + 1) 0 - getD first s 0)) ≡ none
   not-taken r = choose-rows f masks c (getD first s 0) (getD first (s + 1) 0 - getD first s 0) ∙ ap (mapO f) (found-nothing (transitionRow masks first s c) (sym e ∙ r))
+
+-- a state takes something under a choice exactly if it is one of the state's choices
+pub has-taken : {X : Type 0} (f : ℕ → X) (masks first : List ℕ) (s c : ℕ)
+    → has (choicesOf masks first s) c ≡ isSome (choose c (recordsFrom (λ (j : ℕ). alt (getD masks j 0) (f j)) (getD first s 0) 1 (getD first (s + 1) 0 - getD first s 0)))
+has-taken f masks first s c =
+    union-has masks c (getD first s 0) (getD first (s + 1) 0 - getD first s 0)
+    ∙ sym (ap isSome (choose-rows f masks c (getD first s 0) (getD first (s + 1) 0 - getD first s 0)) ∙ some-map f (transitionRow masks first s c))
