@@ -45,7 +45,7 @@ const INNER: u16 = 2048;
 const LEAVES: u16 = 1024;
 
 // A table's slices have their named sizes or more.
-fn table_long(rows: usize, masks: usize, coefs: usize, counts: usize, first: usize) -> bool
+pub fn table_long(rows: usize, masks: usize, coefs: usize, counts: usize, first: usize) -> bool
     ensures { λ r. ⌜ r ≡ (leb rowsSize rows && (leb masksSize masks && (leb coefsSize coefs && (leb countsSize counts && leb firstSize first)))) ⌝ }
 {
     (ROWS <= rows)
@@ -53,7 +53,7 @@ fn table_long(rows: usize, masks: usize, coefs: usize, counts: usize, first: usi
 }
 
 // And so have the lists.
-fn lists_long(cur: usize, next: usize, link: usize, heads: usize) -> bool
+pub fn lists_long(cur: usize, next: usize, link: usize, heads: usize) -> bool
     ensures { λ r. ⌜ r ≡ (leb keysSize cur && (leb keysSize next && (leb keysSize link && leb headsSize heads))) ⌝ }
 {
     (KEYS <= cur) & ((KEYS <= next) & ((KEYS <= link) & (HEADS <= heads)))

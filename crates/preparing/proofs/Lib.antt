@@ -1,1 +1,2 @@
 pub mod Preparations
+pub mod Readied

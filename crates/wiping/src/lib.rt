@@ -134,3 +134,16 @@ pub fn wipe_lists(cur: &mut [u64], next: &mut [u64], link: &mut [u16], heads: &m
     wipe_u16(link);
     wipe_u16(heads);
 }
+
+// Every cell of the three rows of marks and of the hints is 0.
+pub fn wipe_marks(met: &mut [u32], stack: &mut [u32], kept: &mut [u32], hints: &mut [u8])
+    ensures { λ _. ⌜ now (met .exit) ≡ replicate (length (now (met .entry))) 0 ⌝ }
+    ensures { λ _. ⌜ now (stack .exit) ≡ replicate (length (now (stack .entry))) 0 ⌝ }
+    ensures { λ _. ⌜ now (kept .exit) ≡ replicate (length (now (kept .entry))) 0 ⌝ }
+    ensures { λ _. ⌜ now (hints .exit) ≡ replicate (length (now (hints .entry))) 0 ⌝ }
+{
+    wipe_u32(met);
+    wipe_u32(stack);
+    wipe_u32(kept);
+    wipe_u8(hints);
+}
