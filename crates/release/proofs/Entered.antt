@@ -2,9 +2,8 @@
 -- Assumes nothing.
 use mathlib.Core.Path.{_≡_, refl, sym, ap, _∙_}
 use mathlib.Core.Bool.{Bool, true, false, cond, _&&_}
-use mathlib.Core.List.{List, [], _∷_}
+use mathlib.Core.List.{List, []}
 use Prim.Native.Nat.{ℕ, _<_, _≤_}
-use native.Mathlib.Omega.{arith}
 use lib.Dec.{leb}
 use lib.IntN.{pos}
 use lib.ListN.{length, replicate, length-replicate}
@@ -12,13 +11,14 @@ use borrow.Author.Tests.{le-leb, lt-leb}
 use Rattle.stored.specs.Refusal.{refusal, noSource, need}
 use Rattle.stored.specs.Pack.{fileOf}
 use Rattle.jobs.specs.Reply as def
-use Rattle.jobs.specs.Buffers.{Buffer, unsigned, signed, cells, longEnough}
+use Rattle.jobs.specs.Buffers.{Buffer, longEnough}
 use Rattle.jobs.specs.OneGate.{outputSize, newSet, withFile, oneGateLong, oneGateJudged, oneGateReply, oneGateOutput}
 use Rattle.jobs.specs.Entry.{replySize, replyBuffer, replyNumber, oneGateEntry, oneGateEntryNumber, oneGateEntryOutput}
 use Rattle.replies.specs.declared.Reply.{Reply}
 use Rattle.replies.specs.Replied.{replyFrom}
 use Rattle.replies.specs.Laid.{laid, told}
 use Rattle.replies.proofs.Replies.{laid-of, told-of}
+use Rattle.onegate.proofs.Exactly.{exactly-long}
 use Rattle.onegate.specs.Sizes.{rowsSize, masksSize, coefsSize, countsSize, firstSize, keysSize, headsSize, oneGateSizes, oneGateLent}
 
 -- ---- a reply buffer under 64 bytes
@@ -39,16 +39,6 @@ module _ (s c output lent : List ℕ) (h : length lent < replySize) where
   short-buffer = rw short refl
 
 -- ---- the entry's own work buffers
-abbrev Exactly : List ℕ → List Buffer → Type 0
-Exactly [] work = Unit {0}
-Exactly (n ∷ sizes) [] = ⊥
-Exactly (n ∷ sizes) (b ∷ work) = (cells b ≡ n) × Exactly sizes work
-
-exactly-long : (sizes : List ℕ) (work : List Buffer) → Exactly sizes work → longEnough sizes work ≡ true
-exactly-long [] work h = refl
-exactly-long (n ∷ sizes) [] h = absurd h
-exactly-long (n ∷ sizes) (b ∷ work) h = ap (λ (x : Bool). x && longEnough sizes work) (le-leb n (cells b) (omega (arith, h .0))) ∙ exactly-long sizes work (h .1)
-
 abbrev pub ownWork : List Buffer
 ownWork =
     oneGateLent (replicate rowsSize 0) (replicate masksSize 0) (replicate coefsSize (pos 0)) (replicate countsSize 0) (replicate firstSize 0) (replicate rowsSize 0) (replicate masksSize 0) (replicate coefsSize (pos 0)) (replicate countsSize 0) (replicate firstSize 0) (replicate keysSize 0) (replicate keysSize 0) (replicate keysSize 0) (replicate headsSize 0)

@@ -1,0 +1,4 @@
+pub mod Judging
+pub mod Walkable
+pub mod Outcomes
+pub mod Phases

@@ -1,0 +1,77 @@
+-- A set that stands in slices can be searched and walked, and the numbers of its states are within its bounds. Assumes nothing.
+use mathlib.Core.Path.{_≡_, refl, sym, _∙_}
+use mathlib.Core.List.{List}
+use Prim.Native.Nat.{ℕ, suc, _<_, _≤_}
+use native.Mathlib.Omega.{arith}
+use lib.IntN.{ℤ}
+use lib.ListN.{length}
+use Rattle.stored.specs.Rules.{Bounds}
+use Rattle.stored.proofs.Reading.{records-count}
+use Rattle.setfile.specs.declared.Form.{Form}
+use Rattle.tables.specs.Table.{trRow, lfRow, trRows, lfRows, tableSet}
+use Rattle.standing.specs.Standing.{setIn, Stands}
+use Rattle.building.specs.declared.Room.{Room}
+use Rattle.applying.specs.Result.{boundsFrom}
+use Rattle.carrying.specs.Tables.{Table, StandsOn}
+use Rattle.matching.specs.Levels.{startOf}
+use Rattle.matching.specs.Seeking.{Held}
+use Rattle.matching.proofs.LevelLaws.{start-most}
+use Rattle.matching.proofs.Grounds.{start-is}
+use Rattle.walking.specs.Walk.{Both}
+use Rattle.deciding.specs.Decided.{Deciding}
+
+module _ {rows masks : List ℕ} {coefs : List ℤ} {counts first : List ℕ} {form : Form} {b : Bounds} (s : Stands rows masks coefs counts first form b) where
+  pub set-n : setIn form rows masks coefs counts .n ≡ form .n
+  unfolding tableSet
+  set-n = refl
+
+  pub inner-many : length (setIn form rows masks coefs counts .inner) ≡ form .inner
+  unfolding tableSet trRows
+  inner-many = records-count (trRow rows masks) 0 1 (form .inner)
+
+  pub leaves-many : length (setIn form rows masks coefs counts .leaves) ≡ form .leaves
+  unfolding tableSet lfRows
+  leaves-many = records-count (lfRow rows masks coefs) (form .inner) 1 (form .leaves)
+
+  abbrev pub held : b .states < 65536 → (n : ℕ) → n ≡ form .n → Held rows masks coefs counts first n
+  held few n e =
+      let i = inner-many in
+      let l = leaves-many in
+      let a = s .all in
+      let q = set-n in
+      record {
+        set = setIn form rows masks coefs counts;
+        bounds = b;
+        few = few;
+        formed = s .formed;
+        unpacked = s .unpacked;
+        roomy =
+            record {
+              table = record { wide = omega (arith, s .roomy .table .wide); long = omega (arith, s .roomy .table .long) };
+              amplitudes = omega (arith, s .roomy .amplitudes);
+              levels = omega (arith, s .roomy .levels);
+              begins = omega (arith, s .roomy .begins);
+              few = omega (arith, s .roomy .few);
+            };
+        qubits = e ∙ sym q;
+      }
+
+-- all states of a held set
+pub held-states : {rows masks : List ℕ} {coefs : List ℤ} {counts first : List ℕ} {n : ℕ} (h : Held rows masks coefs counts first n) → startOf counts (suc n) ≤ h .bounds .states
+held-states {counts = counts} {n = n} h =
+    omega (arith, start-is h (suc n) (omega arith), start-most (h .set .counts) (suc n), h .formed .states)
+
+-- what the walk asks, of an image that stands in a table after the gates
+abbrev pub walkable : {circuit : List ℕ} {count : ℕ} {form endform : Form} {A B : Table} {cur next link heads : List ℕ} {E : Table} {met reached : List ℕ} {room : Room}
+    → Deciding circuit count form endform A B cur next link heads E met reached room → {T : Table} {f : Form} → StandsOn T f (boundsFrom room) → f .n ≡ form .n
+    → Both (T .rows) (T .masks) (T .coefs) (T .counts) (T .first) (E .rows) (E .masks) (E .coefs) (E .counts) (E .first) 4 (length met) (length reached) (form .n)
+walkable {form = form} d s e =
+    let i = held s (omega (arith, d .lists .small)) (form .n) (sym e) in
+    let j = held (d .end) (omega (arith, d .narrow)) (form .n) (sym (d .qubits)) in
+    record {
+      image = i;
+      ends = j;
+      long = omega (arith, held-states i, d .marks);
+      narrow = omega (arith, held-states j, d .narrow);
+      celled = omega (arith, held-states i, d .cells);
+    }

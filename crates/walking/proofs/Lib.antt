@@ -1,0 +1,6 @@
+pub mod TallyLaws
+pub mod Placed
+pub mod Branches
+pub mod Rooms
+pub mod Listed
+pub mod Verdicts
