@@ -195,13 +195,14 @@ pub fn one_gate(
         numbers.len(),
         oldcounts.len(),
         first.len(),
-    ) & table_long(
-        rows.len(),
-        masks.len(),
-        coefs.len(),
-        counts.len(),
-        newfirst.len(),
-    );
+    )
+        & table_long(
+            rows.len(),
+            masks.len(),
+            coefs.len(),
+            counts.len(),
+            newfirst.len(),
+        );
     let lists = lists_long(cur.len(), next.len(), link.len(), heads.len());
     if !((OUTPUT <= output.len()) & (tables & lists)) {
         return refused(Refusal {

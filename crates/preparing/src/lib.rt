@@ -121,7 +121,15 @@ fn prepare_rest(
     match read_circuit(circuit, form.n) {
         CircuitAnswer::Bad(r) => Prepared::Refused(r),
         CircuitAnswer::Good(count) => prepare_end(
-            end, form, count, bounds, rows, masks, coefs, counts, first,
+            end,
+            form,
+            count,
+            bounds,
+            rows,
+            masks,
+            coefs,
+            counts,
+            first,
         ),
     }
 }
@@ -154,7 +162,15 @@ pub fn prepare(
     match load(start, bounds, START, rows, masks, coefs, counts, first) {
         SetAnswer::Bad(r) => Prepared::Refused(r),
         SetAnswer::Good(form) => prepare_rest(
-            circuit, end, form, endbounds, endrows, endmasks, endcoefs, endcounts, endfirst,
+            circuit,
+            end,
+            form,
+            endbounds,
+            endrows,
+            endmasks,
+            endcoefs,
+            endcounts,
+            endfirst,
         ),
     }
 }

@@ -14,8 +14,7 @@ use Rattle.checking.proofs.check_files.Tie as tie
 prepare-requires : tie.Need-prepare-requires
 prepare-requires c κs =
     let z = c .before .before .before .before .before .before .before .before .before .before .before .before .before .before .before .before .before .before .before .before .before .before .before .before .before .before .before .before .before .before .before .before .before in
-    let a = z .args in
-    (
+    let a = z .args in (
       roomy-by (tableOf (now (a .arows)) (now (a .amasks)) (now (a .acoefs)) (now (a .acounts)) (now (a .afirst))) _ (a .room) (c .before .before .before .before .before .before .before .before .before .before .before .bounds-of .ensures) (z .pre .start),
       roomy-by (tableOf (now (a .endrows)) (now (a .endmasks)) (now (a .endcoefs)) (now (a .endcounts)) (now (a .endfirst))) _ (a .endroom) (c .before .before .before .before .before .before .before .before .before .before .bounds-of2 .ensures) (z .pre .end),
     )

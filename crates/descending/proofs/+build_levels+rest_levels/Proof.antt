@@ -26,7 +26,6 @@ use Rattle.building.proofs.topped.Reads as topped-reads
 use Rattle.descending.proofs.+build_levels+rest_levels.{statement}
 use Rattle.descending.proofs.+build_levels+rest_levels.Tie.{close}
 
-
 abbrev μ-build-levels : Measures 12 build-levels-kinds.ps ℕ
 μ-build-levels κs a = 2 * (a .1 .1 .1 .1 .1 .1 .1 .1 .0)
 
@@ -206,8 +205,7 @@ build-levels-rest-levels-requires t c κs =
     let some = c .before .before .before .before .before .before .before .before .before .before .before .before .before .before .before .before .before .before .before .before .before .before .before .before .before .before .before .before .before .before .if1 .left in
     let more : 0 < a .left = omega (arith, some) in
     let ok = not-false _ (c .before .before .before .before .before .before .before .before .before .before .if2 .left) in
-    let g = done .ensures .0 .growing ok in
-    (
+    let g = done .ensures .0 .growing ok in (
       omega (arith, z .pre .0, some),
       (next-going (now (a .old)) (now (a .oldmasks)) (now (a .numbers)) (now (a .first)) (gateIs (a .g)) (a .room) (a .level) (a .left) (a .start) (a .count) (now (a .cur)) more there (done .ensures .0) ok go, (lists-on (done .ensures .1) l (r .few), rest-on (done .ensures .1) r more (g .rowsFew) (g .keysFew))),
     )

@@ -52,8 +52,7 @@ slice-aggregate-work-14 c = let d = c .before .before .before .before .before .b
 
 work-requires : tie.Need-work-requires
 work-requires c κs =
-    let d = c .before .before .before .before .before .before .before .before .before .before .before .before .before .before .before .before .before .before .before .before .before .before .before .before .before .before .before .before .before .before in
-    (
+    let d = c .before .before .before .before .before .before .before .before .before .before .before .before .before .before .before .before .before .before .before .before .before .before .before .before .before .before .before .before .before .before in (
       d .pre .outputLong,
       (
         record { rowsLong = front-long 0 rowsSize (now (d .args .old)) (d .pre .oldLong); masksLong = front-long 0 masksSize (now (d .args .oldmasks)) (d .pre .oldmasksLong); coefsLong = front-long (pos 0) coefsSize (now (d .args .numbers)) (d .pre .numbersLong); countsLong = front-long 0 countsSize (now (d .args .oldcounts)) (d .pre .oldcountsLong); firstLong = front-long 0 firstSize (now (d .args .first)) (d .pre .firstLong) },
@@ -110,8 +109,7 @@ same-length-15 c = c .before .heads .given .1
 returns : tie.Need-returns
 returns c =
     let d = c .before .before .before .before .before .before .before .before .before .before .before .before .before .before .before .before .before .before .before .before .before .before .before .before .before .before .before .before .before .before .before .before .before .before .before .before .before .before .before .before .before .before .before .before .before .before .before .before .before .before .before .before .before .before .before .before .before .before .before in
-    let w = c .before .before .before .before .before .before .before .before .before .before .before .before .before .before .before .before .before .before .before .before .before .before .before .before .before .before .before .before .work in
-    (
+    let w = c .before .before .before .before .before .before .before .before .before .before .before .before .before .before .before .before .before .before .before .before .before .before .before .before .before .before .before .before .work in (
       w .ensures .0,
       (
         w .ensures .1 .0,

@@ -17,8 +17,7 @@ returns c =
     let a = c .before .before .before .before .before .before .before .before .before .before .before .before .before .before .before .before .before .before .before .before .args in
     let same = ap (λ (b : Bool). leb outputSize (length (now (a .output))) && b) (ap₂ (λ (x y : Bool). x && y) (ap₂ (λ (x y : Bool). x && y) (c .before .before .before .before .table-long .ensures) (c .before .before .before .table-long2 .ensures)) (c .before .before .lists-long .ensures)) in
     let e = sym (not-true _ (c .before .if1 .taken)) ∙ same ∙ long-is (now (a .output)) (now (a .old)) (now (a .oldmasks)) (now (a .numbers)) (now (a .oldcounts)) (now (a .first)) (now (a .rows)) (now (a .masks)) (now (a .coefs)) (now (a .counts)) (now (a .newfirst)) (now (a .cur)) (now (a .next)) (now (a .link)) (now (a .heads)) in
-    let work = oneGateLent (now (a .old)) (now (a .oldmasks)) (now (a .numbers)) (now (a .oldcounts)) (now (a .first)) (now (a .rows)) (now (a .masks)) (now (a .coefs)) (now (a .counts)) (now (a .newfirst)) (now (a .cur)) (now (a .next)) (now (a .link)) (now (a .heads)) in
-    (
+    let work = oneGateLent (now (a .old)) (now (a .oldmasks)) (now (a .numbers)) (now (a .oldcounts)) (now (a .first)) (now (a .rows)) (now (a .masks)) (now (a .coefs)) (now (a .counts)) (now (a .newfirst)) (now (a .cur)) (now (a .next)) (now (a .link)) (now (a .heads)) in (
       short-reply (now (a .set)) (now (a .circuit)) (now (a .output)) work e (c .refused .ensures),
       (short-output (now (a .set)) (now (a .circuit)) (now (a .output)) work e, short-work (now (a .set)) (now (a .circuit)) (now (a .output)) work e),
     )
@@ -35,8 +34,7 @@ returns-2 c =
     let same = ap (λ (b : Bool). leb outputSize (length (now (a .output))) && b) (ap₂ (λ (x y : Bool). x && y) (ap₂ (λ (x y : Bool). x && y) (c .before .before .before .before .before .before .before .before .before .before .before .before .before .before .before .before .before .before .before .before .before .before .before .before .before .before .before .before .before .before .before .before .before .before .before .before .before .before .before .before .before .before .before .before .before .before .before .table-long .ensures) (c .before .before .before .before .before .before .before .before .before .before .before .before .before .before .before .before .before .before .before .before .before .before .before .before .before .before .before .before .before .before .before .before .before .before .before .before .before .before .before .before .before .before .before .before .before .before .table-long2 .ensures)) (c .before .before .before .before .before .before .before .before .before .before .before .before .before .before .before .before .before .before .before .before .before .before .before .before .before .before .before .before .before .before .before .before .before .before .before .before .before .before .before .before .before .before .before .before .before .lists-long .ensures)) in
     let e = sym (not-false _ (c .before .before .before .before .before .before .before .before .before .before .before .before .before .before .before .before .before .before .before .before .before .before .before .before .before .before .before .before .before .before .before .before .before .before .before .before .before .before .before .before .before .before .before .before .if1 .left)) ∙ same ∙ long-is (now (a .output)) (now (a .old)) (now (a .oldmasks)) (now (a .numbers)) (now (a .oldcounts)) (now (a .first)) (now (a .rows)) (now (a .masks)) (now (a .coefs)) (now (a .counts)) (now (a .newfirst)) (now (a .cur)) (now (a .next)) (now (a .link)) (now (a .heads)) in
     let work = oneGateLent (now (a .old)) (now (a .oldmasks)) (now (a .numbers)) (now (a .oldcounts)) (now (a .first)) (now (a .rows)) (now (a .masks)) (now (a .coefs)) (now (a .counts)) (now (a .newfirst)) (now (a .cur)) (now (a .next)) (now (a .link)) (now (a .heads)) in
-    let l = c .before .before .before .before .before .before .before .before .before .before .before .before .before .before .before .before .before .before .before .before .before .before .before .before .before .before .before .before .lend in
-    (
+    let l = c .before .before .before .before .before .before .before .before .before .before .before .before .before .before .before .before .before .before .before .before .before .before .before .before .before .before .before .before .lend in (
       long-reply (now (a .set)) (now (a .circuit)) (now (a .output)) work e (l .ensures .0),
       (
         long-output (now (a .set)) (now (a .circuit)) (now (a .output)) work e (l .ensures .1 .0),

@@ -64,8 +64,7 @@ returns c =
     let table = c .before .before .before .before .before .before .before .before .before .before .before .before .before .before .before .before .before .before .before .before .before .before .before .before .before .before .before .before .before .before .before .before .before .before .before .before .before .wipe-table in
     let table2 = c .before .before .before .before .before .before .before .before .before .before .before .before .before .before .before .before .before .before .before .before .before .before .wipe-table2 in
     let lists = c .before .before .before .before .before .before .before .before .wipe-lists in
-    let e = new-set (now (a .set)) (now (a .circuit)) in
-    (
+    let e = new-set (now (a .set)) (now (a .circuit)) in (
       done .ensures .0 ∙ ap (λ (j : Judged QSet). replyFrom (lengthReply j)) e,
       (
         done .ensures .1 ∙ ap (withFile (now (a .output))) e,

@@ -27,8 +27,7 @@ returns-2 c =
     let b = boundsOf (a .bounds) in
     let l = c .before .before .before .before .before .before .before .before .before .before .before .before .before .load in
     let t = taken b endSource (now (a .end)) _ (sym (c .before .before .form .given .1) ∙ l .ensures .0) in
-    let Q = setOf (now (a .end)) in
-    (
+    let Q = setOf (now (a .end)) in (
       c .same-n .ensures Q (form-taken t) ∙ ap formAnswer (sym (end-taken b (a .n) (now (a .end)) Q (t .good))),
       λ E g. l .ensures .1 E (end-set b (a .n) (now (a .end)) Q E (t .good) g),
     )

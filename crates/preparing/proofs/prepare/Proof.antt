@@ -47,8 +47,7 @@ returns-2 c =
     let p = c .before .before .before .before .before .before .before .before .before .prepare-rest in
     let Q = setOf (now (a .start)) in
     let t = taken b startSource (now (a .start)) _ (sym (c .before .before .before .before .before .before .before .before .before .before .before .before .before .before .before .before .form .given .1) ∙ l .ensures .0) in
-    let f = files-yes b eb (now (a .start)) (now (a .circuit)) (now (a .end)) Q (t .good) in
-    (
+    let f = files-yes b eb (now (a .start)) (now (a .circuit)) (now (a .end)) Q (t .good) in (
       p .ensures .0 Q (form-taken t) ∙ ap preparedOf f,
       λ J g. (l .ensures .1 (J .start) (t .good ∙ ap good (rest-start eb Q (now (a .circuit)) (now (a .end)) J (f ∙ g))), p .ensures .1 Q J (form-taken t) (f ∙ g)),
     )

@@ -23,8 +23,7 @@ returns-2 c =
     let a = c .before .before .before .before .before .before .before .before .before .before .before .before .before .before .before .before .before .before .before .before .before .before .before .args in
     let b = boundsOf (a .bounds) in
     let l = c .before .before .before .before .before .before .before .before .before .before .before .before .load-end in
-    let t = told-good (endJudged b (a .form .n) (now (a .end))) _ (sym (c .before .endform .given .1) ∙ l .ensures .0) in
-    (
+    let t = told-good (endJudged b (a .form .n) (now (a .end))) _ (sym (c .before .endform .given .1) ∙ l .ensures .0) in (
       λ Q gs e i. ready-answer (a .form) _ (a .count) (ready Q gs (t .set)) (endReady b Q gs (now (a .end))) (ready-yes b Q gs (now (a .end)) (a .form) e (t .set) (t .is)) e i (t .form),
       l .ensures .1,
     )

@@ -13,8 +13,7 @@ returns : tie.Need-returns
 returns c =
     let a = c .before .before .before .before .before .before .before .before .before .before .args in
     let b = boundsOf (a .bounds) in
-    let j = wrong-circuit (judgeCircuit (a .form .n) (now (a .circuit))) _ (sym (c .before .r .given .1) ∙ c .before .before .before .read-circuit .ensures) in
-    (
+    let j = wrong-circuit (judgeCircuit (a .form .n) (now (a .circuit))) _ (sym (c .before .r .given .1) ∙ c .before .before .before .read-circuit .ensures) in (
       λ Q e. refused-answer _ (restJudged b Q (now (a .circuit)) (now (a .end))) (rest-no b Q (now (a .circuit)) (now (a .end)) (a .form) e _ j),
       λ Q J e g. absurd (never (restJudged b Q (now (a .circuit)) (now (a .end))) _ J (sym (rest-no b Q (now (a .circuit)) (now (a .end)) (a .form) e _ j)) g),
     )
@@ -24,8 +23,7 @@ returns-2 c =
     let a = c .before .before .before .before .before .before .before .before .before .before .before .before .before .before .before .before .before .before .before .before .before .before .before .before .before .args in
     let b = boundsOf (a .bounds) in
     let p = c .before .before .before .before .before .before .before .before .before .prepare-end in
-    let k = counted (judgeCircuit (a .form .n) (now (a .circuit))) _ (sym (c .before .before .before .before .before .before .before .before .before .before .before .before .before .before .before .before .count .given .1) ∙ c .before .before .before .before .before .before .before .before .before .before .before .before .before .before .before .before .before .before .read-circuit .ensures) in
-    (
+    let k = counted (judgeCircuit (a .form .n) (now (a .circuit))) _ (sym (c .before .before .before .before .before .before .before .before .before .before .before .before .before .before .before .before .count .given .1) ∙ c .before .before .before .before .before .before .before .before .before .before .before .before .before .before .before .before .before .before .read-circuit .ensures) in (
       λ Q e. p .ensures .0 Q (k .gates) e (k .many) ∙ ap preparedOf (rest-yes b Q (now (a .circuit)) (now (a .end)) (a .form) e (k .gates) (k .is)),
       λ Q J e g. p .ensures .1 (J .end) (rest-end b Q (now (a .circuit)) (now (a .end)) (a .form) e (k .gates) (k .is) J g),
     )

@@ -9,8 +9,7 @@ use Rattle.release.proofs.zhargutai_one_gate.Tie as tie
 returns : tie.Need-returns
 returns c =
     let a = c .before .before .before .before .before .args in
-    let h = c .if1 .taken in
-    (
+    let h = c .if1 .taken in (
       short-number (now (a .set)) (now (a .circuit)) (now (a .output)) (now (a .reply)) h,
       (short-output (now (a .set)) (now (a .circuit)) (now (a .output)) (now (a .reply)) h, short-buffer (now (a .set)) (now (a .circuit)) (now (a .output)) (now (a .reply)) h),
     )
@@ -20,8 +19,7 @@ returns-2 c =
     let a = c .before .before .before .before .before .before .before .before .before .before .before .before .before .before .before .before .before .before .before .before .before .before .before .before .before .before .before .before .before .before .before .before .before .before .before .before .before .before .before .before .before .args in
     let h = c .before .before .before .before .before .before .before .before .before .before .before .before .before .before .before .before .before .before .before .before .before .before .before .before .before .before .before .before .before .before .before .before .before .before .before .before .if1 .left in
     let done = c .before .before .before .before .before .before .before .before .before .before .before .before .before .before .before .before .before .before .before .before .one-gate in
-    let put = c .before .before .put-reply in
-    (
+    let put = c .before .before .put-reply in (
       long-number (now (a .set)) (now (a .circuit)) (now (a .output)) (now (a .reply)) h (done .ensures .0) (put .ensures .1),
       (long-output (now (a .set)) (now (a .circuit)) (now (a .output)) (now (a .reply)) h (done .ensures .1 .0), long-buffer (now (a .set)) (now (a .circuit)) (now (a .output)) (now (a .reply)) h (done .ensures .0) (put .ensures .0)),
     )
