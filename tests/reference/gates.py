@@ -2,8 +2,6 @@
 
 An amplitude is (k, a, b, c, d): (1/√2)^k (a + bω + cω² + dω³).
 """
-from itertools import product
-
 from sets import BOUNDS, RANGE, Set, least
 
 PHASE = {3: 4, 5: 2, 6: 6, 7: 1, 8: 7}
@@ -62,6 +60,8 @@ def members(s, most=None):
         if most is not None and len(found) >= most:
             return
         for c in range(32):
+            if take((inner if level <= s.n else leaves).get(states[0], ()), c) is None:
+                continue
             if level == s.n + 1:
                 got = [take(leaves.get(q, ()), c) for q in states]
                 if None not in got:
