@@ -1,6 +1,6 @@
 """Writes the jobs that tests/c/gates.c runs: one-gate jobs, random with a fixed seed and named, with the reply and output that sets.py and gates.py give.
 
-A result is also held to the gate's matrix: up to 100 members of a small set as dense vectors, a few random members of a larger one at some basis states.
+A result is also held to the gate's matrix: every member of a small set as a dense vector, a few random members of a larger one at some basis states.
 Fails if a kind of job that is asked for below was not made.
 
 usage: gate_cases.py FILE
@@ -363,7 +363,7 @@ def damaged(count):
 
 
 WANTED = {
-    "held to dense vectors": 700, "held to the matrix at some basis states": 300,
+    "held to dense vectors": 2000, "held to the matrix at some basis states": 300,
     "several roots": 100, "unreached states": 100, "kept states without transitions": 100, "no transitions at all": 4, "crossing masks": 50,
     "a pair that meets nothing": 20, "a pair of one state with itself": 20, "Y on equal children": 10, "choice 31": 50,
     "k 64 kept": 50, "H at k 63": 5, "coefficients at an end before": 50, "H with a coefficient at an end after": 20, "output of the whole length": 3,
@@ -381,7 +381,7 @@ WANTED = {
 def main(path):
     examples()
     textbook()
-    small(1500)
+    small(2700)
     deep()
     crossing(250)
     wide(40)

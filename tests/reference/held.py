@@ -3,7 +3,7 @@ from gates import MATRIX, apply, equal, members, same, take, transitions
 
 
 def dense(s, gate, new):
-    """The first 100 members of a set with few words, as dense vectors. How many there were; None if the set has too many words for it."""
+    """All members of a set with few words, as dense vectors. How many there were; None if the set has too many words for it."""
     words = 1
     for level in range(s.n + 1):
         below = sum(s.counts[:level])
@@ -11,7 +11,7 @@ def dense(s, gate, new):
         words *= 1 + bin(joined(rows)).count("1")
     if s.n > 7 or words * 2 ** s.n * s.counts[0] > 60000:
         return None
-    old, now = members(s, 100), members(new, 100)
+    old, now = members(s), members(new)
     assert [m[:2] for m in old] == [m[:2] for m in now]
     assert all(equal(apply(v, s.n, gate), w) for (_, _, v), (_, _, w) in zip(old, now))
     return len(old)
