@@ -35,7 +35,7 @@ use Rattle.applying.specs.declared.GateResult.{GateResult}
 use Rattle.applying.specs.declared.GateResult.the-variants.{Made}
 use Rattle.applying.specs.Result.{madeOf, boundsFrom, resultOf, picked}
 use Rattle.applying.specs.Standing.{Lent, Indexable}
-use Rattle.applying.proofs.OldTable.{holding}
+use Rattle.standing.proofs.StandingLaws.{holding}
 
 -- ---- the judgement, from three answers
 pick : (place : ℕ) (f : Form) (N : QSet) (k s l m : Bool) → (s ≡ true → l ≡ m) → (s ≡ true → f ≡ formOf N)

@@ -19,26 +19,11 @@ use Rattle.tables.specs.Ready.{Roomy, Unpacked}
 use Rattle.stepwise.proofs.StoredLaws.{Light}
 use Rattle.tablewise.proofs.TableKeys.{StatesOf, root-states}
 use Rattle.building.specs.Going.{Old, Going}
+use Rattle.standing.proofs.StandingLaws.{set-n, set-k, set-inner, set-leaves}
 use Rattle.standing.specs.Standing.{setIn, formOf, Stands, Holding}
 
 -- ---- the numbers of a set in slices
 module _ (f : Form) (rows masks : List ℕ) (coefs : List ℤ) (counts : List ℕ) where
-  pub set-n : setIn f rows masks coefs counts .n ≡ f .n
-  unfolding tableSet
-  set-n = refl
-
-  pub set-k : setIn f rows masks coefs counts .k ≡ f .k
-  unfolding tableSet
-  set-k = refl
-
-  pub set-inner : length (setIn f rows masks coefs counts .inner) ≡ f .inner
-  unfolding tableSet trRows
-  set-inner = records-count (trRow rows masks) 0 1 (f .inner)
-
-  pub set-leaves : length (setIn f rows masks coefs counts .leaves) ≡ f .leaves
-  unfolding tableSet lfRows
-  set-leaves = records-count (lfRow rows masks coefs) (f .inner) 1 (f .leaves)
-
   first-root : (cs : List ℕ) → rootsIn (take (f .n + 1) cs) ≡ getD cs 0 0
   first-root [] = let e : f .n + 1 ≡ suc (f .n) = omega arith in ap (λ (m : ℕ). rootsIn (take m [])) e
   first-root (c ∷ cs) = let e : f .n + 1 ≡ suc (f .n) = omega arith in ap (λ (m : ℕ). rootsIn (take m (c ∷ cs))) e
@@ -51,21 +36,6 @@ module _ (f : Form) (rows masks : List ℕ) (coefs : List ℤ) (counts : List �
 pub roots-among : (cs : List ℕ) → rootsIn cs ≤ sum cs
 roots-among [] = omega arith
 roots-among (c ∷ cs) = omega arith
-
--- ---- a set that is held, with the numbers that the code says of it
-pub holding : {rows masks : List ℕ} {coefs : List ℤ} {counts first : List ℕ} {N : QSet} {b : Bounds} → WellFormed b N → Unpacked rows masks coefs counts first N
-    → Roomy rows masks coefs counts first (N .n) (sum (N .counts)) (length (N .inner)) (length (N .leaves)) → Holding rows masks coefs counts first N b
-holding {rows} {masks} {coefs} {counts} {first} {N} {b} w u room =
-    let is : setIn (formOf N) rows masks coefs counts ≡ N = u .holds .is in
-    record {
-      stands = record {
-        formed = subst (WellFormed b) (sym is) w;
-        unpacked = subst (Unpacked rows masks coefs counts first) (sym is) u;
-        roomy = room;
-        all = ap (λ (M : QSet). sum (M .counts)) (sym is);
-      };
-      is = is;
-    }
 
 -- ---- what building asks
 module _ {rows masks : List ℕ} {coefs : List ℤ} {counts first : List ℕ} {form : Form} {b : Bounds} (few : b .states < radix) (s : Stands rows masks coefs counts first form b) where

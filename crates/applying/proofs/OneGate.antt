@@ -33,7 +33,8 @@ use Rattle.standing.specs.Standing.{setIn, Stands, Holding}
 use Rattle.applying.specs.declared.GateResult.{GateResult}
 use Rattle.applying.specs.Result.{boundsFrom, madeOf, resultOf, picked}
 use Rattle.applying.specs.Standing.{Lent, Indexable}
-use Rattle.applying.proofs.OldTable.{set-n, set-k, root-count, root-keys}
+use Rattle.standing.proofs.StandingLaws.{set-n, set-k}
+use Rattle.applying.proofs.OldTable.{root-count, root-keys}
 use Rattle.applying.proofs.NewTable.{sizes-told, leaves-told, result-told, indexable, new-holds}
 
 growth-few : (g : Gate) → growth g ≤ 1

@@ -26,7 +26,7 @@ use Rattle.building.specs.Going.{Lists}
 use Rattle.standing.specs.Standing.{formOf}
 use Rattle.applying.specs.declared.GateResult.{GateResult}
 use Rattle.applying.specs.Result.{boundsFrom, resultOf}
-use Rattle.applying.proofs.OldTable.{set-n}
+use Rattle.standing.proofs.StandingLaws.{set-n}
 use Rattle.applying.proofs.OneGate.{lent-on}
 use Rattle.carrying.specs.declared.Carry.{Carry}
 use Rattle.carrying.specs.Tables.{Table, holder, other, setOn, StandsOn, StandsIn, HoldingOn, LentOn}

@@ -6,10 +6,9 @@ use native.Mathlib.Omega.{arith}
 use lib.IntN.{ℤ}
 use lib.ListN.{length}
 use Rattle.stored.specs.Rules.{Bounds}
-use Rattle.stored.proofs.Reading.{records-count}
 use Rattle.setfile.specs.declared.Form.{Form}
-use Rattle.tables.specs.Table.{trRow, lfRow, trRows, lfRows, tableSet}
 use Rattle.standing.specs.Standing.{setIn, Stands}
+use Rattle.standing.proofs.StandingLaws.{set-n, set-inner, set-leaves}
 use Rattle.building.specs.declared.Room.{Room}
 use Rattle.applying.specs.Result.{boundsFrom}
 use Rattle.carrying.specs.Tables.{Table, StandsOn}
@@ -21,24 +20,12 @@ use Rattle.walking.specs.Walk.{Both}
 use Rattle.deciding.specs.Decided.{Deciding}
 
 module _ {rows masks : List ℕ} {coefs : List ℤ} {counts first : List ℕ} {form : Form} {b : Bounds} (s : Stands rows masks coefs counts first form b) where
-  pub set-n : setIn form rows masks coefs counts .n ≡ form .n
-  unfolding tableSet
-  set-n = refl
-
-  pub inner-many : length (setIn form rows masks coefs counts .inner) ≡ form .inner
-  unfolding tableSet trRows
-  inner-many = records-count (trRow rows masks) 0 1 (form .inner)
-
-  pub leaves-many : length (setIn form rows masks coefs counts .leaves) ≡ form .leaves
-  unfolding tableSet lfRows
-  leaves-many = records-count (lfRow rows masks coefs) (form .inner) 1 (form .leaves)
-
   abbrev pub held : b .states < 65536 → (n : ℕ) → n ≡ form .n → Held rows masks coefs counts first n
   held few n e =
-      let i = inner-many in
-      let l = leaves-many in
+      let i = set-inner form rows masks coefs counts in
+      let l = set-leaves form rows masks coefs counts in
       let a = s .all in
-      let q = set-n in
+      let q = set-n form rows masks coefs counts in
       record {
         set = setIn form rows masks coefs counts;
         bounds = b;

@@ -7,21 +7,20 @@ use lib.IntN.{ℤ}
 use lib.ListN.{length, getD, take}
 use Rattle.automata.specs.Sets.{QSet, sum}
 use Rattle.stored.specs.Form.{fileSize}
-use Rattle.stored.specs.Fields.{recordsFrom}
 use Rattle.stored.specs.Refusal.{Judged, good}
 use Rattle.stored.specs.Rules.{Bounds, nMost}
 use Rattle.stored.specs.Pack.{fileOf}
 use Rattle.stored.proofs.WellFormed.{Narrow}
-use Rattle.stored.proofs.Reading.{records-count}
 use Rattle.stored.proofs.ReadBack.{file-length}
 use Rattle.jobs.specs.OneGate.{withFile}
 use Rattle.packing.specs.Written.{tableForm, HasRows, atFront}
 use Rattle.replies.specs.declared.Reply.{Reply}
 use Rattle.replies.specs.Replied.{replyFrom}
 use Rattle.setfile.specs.declared.Form.{Form}
-use Rattle.tables.specs.Table.{rowWidth, leafWidth, trRow, lfRow, trRows, lfRows, tableSet}
+use Rattle.tables.specs.Table.{rowWidth, leafWidth, tableSet}
 use Rattle.building.specs.declared.Room.{Room}
 use Rattle.standing.specs.Standing.{setIn, formOf, Stands, Holding}
+use Rattle.standing.proofs.StandingLaws.{set-n, set-inner, set-leaves}
 use Rattle.applying.specs.Result.{boundsFrom}
 use Rattle.applying.specs.Standing.{Lent}
 use Rattle.gating.specs.Gated.{lengthReply, largest, Target}
@@ -32,12 +31,10 @@ module _ {rows masks : List ℕ} {coefs : List ℤ} {counts first : List ℕ} {f
   states-sum = s .all
 
   inner-many : length (setIn form rows masks coefs counts .inner) ≡ form .inner
-  unfolding tableSet trRows
-  inner-many = records-count (trRow rows masks) 0 1 (form .inner)
+  inner-many = set-inner form rows masks coefs counts
 
   leaves-many : length (setIn form rows masks coefs counts .leaves) ≡ form .leaves
-  unfolding tableSet lfRows
-  leaves-many = records-count (lfRow rows masks coefs) (form .inner) 1 (form .leaves)
+  leaves-many = set-leaves form rows masks coefs counts
 
   named : (i : ℕ) → i < form .leaves → getD rows ((form .inner + i) * rowWidth + 1) 0 ≡ i
   named i lt =
@@ -51,16 +48,11 @@ module _ {rows masks : List ℕ} {coefs : List ℤ} {counts first : List ℕ} {f
     coefs = λ i lt. omega (arith, named i lt, s .roomy .amplitudes);
   }
 
-  same-n : setIn form rows masks coefs counts .n ≡ form .n
-  unfolding tableSet
-  same-n = refl
-
   pub n-few : form .n ≤ nMost
-  unfolding tableSet
-  n-few = s .formed .nFew
+  n-few = omega (arith, set-n form rows masks coefs counts, s .formed .nFew)
 
   pub file-fits : (output : List ℕ) → largest room ≤ length output → fileSize (tableForm (form .n) (form .k) (form .states) (form .inner) (form .leaves)) ≤ length output
-  file-fits output h = omega (arith, inner-many, leaves-many, same-n, s .formed .nFew, s .formed .inner, s .formed .leaves)
+  file-fits output h = omega (arith, inner-many, leaves-many, n-few, s .formed .inner, s .formed .leaves)
 
   pub file-short : Narrow (boundsFrom room) → length (fileOf (setIn form rows masks coefs counts)) < 4294967296
   file-short narrow =
