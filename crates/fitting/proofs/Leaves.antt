@@ -65,7 +65,7 @@ pub no-choice : (rows masks : List ℕ) (coefs : List ℤ) (first endRows endMas
 unfolding leafAlts
 no-choice rows masks coefs first endRows endMasks endCoefs endFirst c d wide met l =
     met-fails (leavesIn rows masks coefs first endRows endMasks endCoefs endFirst c d) (hasChoice endMasks endFirst d) wide met l
-    (λ s e h. has-taken (leafOf endRows endCoefs) endMasks endFirst e d ∙ leaf-there (choose c (endsIn rows masks coefs first s)) (choose d (endsIn endRows endMasks endCoefs endFirst e)) h)
+    (λ s e on h. has-taken (leafOf endRows endCoefs) endMasks endFirst e d ∙ leaf-there (choose c (endsIn rows masks coefs first s)) (choose d (endsIn endRows endMasks endCoefs endFirst e)) h)
 
 -- the choices of the end states of the level can be looked up
 pub level-open : {rows masks : List ℕ} {coefs : List ℤ} {first endRows endMasks : List ℕ} {endCoefs : List ℤ} {endFirst : List ℕ} {wide size : ℕ} {l : Level}

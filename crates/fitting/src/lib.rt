@@ -52,7 +52,14 @@ fn scale_at(rows: &[u16], coefs: &[i32], i: u16) -> u8
 }
 
 // The leaves of row i and of the end set's row j are equal.
-fn fit_rows(rows: &[u16], coefs: &[i32], endrows: &[u16], endcoefs: &[i32], i: u16, j: u16) -> bool
+pub fn fit_rows(
+    rows: &[u16],
+    coefs: &[i32],
+    endrows: &[u16],
+    endcoefs: &[i32],
+    i: u16,
+    j: u16,
+) -> bool
     requires { ⌜ LeafRow (now rows) (now coefs) i × LeafRow (now endrows) (now endcoefs) j ⌝ }
     ensures { λ r. ⌜ r ≡ same (leafOf (now (rows .entry)) (now (coefs .entry)) i) (leafOf (now (endrows .entry)) (now (endcoefs .entry)) j) ⌝ }
 {

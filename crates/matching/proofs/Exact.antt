@@ -23,29 +23,15 @@ use Rattle.lookup.specs.Alts.{altsFrom, movesIn, tableAutomaton}
 use Rattle.lookup.proofs.Finding.{scan-hits}
 use Rattle.lookup.proofs.AltsLaws.{inner-alts, leaf-alts}
 use Rattle.stepping.proofs.Answers.{choose-rows}
-use Rattle.matching.specs.Levels.{startOf}
+use Rattle.matching.specs.Levels.{startOf, Among}
 use Rattle.matching.specs.Seeking.{wordFrom, anyWord, Held, Lent}
-use Rattle.matching.proofs.LevelLaws.{start-zero, start-next, Among}
-use Rattle.matching.proofs.Grounds.{start-is, level-of, inner}
+use Rattle.matching.proofs.LevelLaws.{start-zero, start-next}
+use Rattle.matching.proofs.Grounds.{start-is, level-of, chosen}
 use Rattle.matching.proofs.Words.{any-ext, word-found}
 use Rattle.matching.proofs.Roots.{word-taken, word-whole}
 
 -- ---- one table
 module _ {rows masks : List ℕ} {coefs : List ℤ} {counts first : List ℕ} {n : ℕ} (h : Held rows masks coefs counts first n) where
-  -- both children of a state stand on the next level
-  chosen : (at s c : ℕ) → at < n → Among counts at s → (p : ℕ × ℕ) → choose c (movesIn rows masks first s) ≡ some p → Among counts (suc at) (p .0) × Among counts (suc at) (p .1)
-  unfolding altsFrom
-  chosen at s c less a p e =
-      go (transitionRow masks first s c) refl (sym (choose-rows (pairRow rows) masks c (getD first s 0) (getD first (s + 1) 0 - getD first s 0)) ∙ e)
-    where
-      go : (o : Option ℕ) → transitionRow masks first s c ≡ o → mapO (pairRow rows) o ≡ some p → Among counts (suc at) (p .0) × Among counts (suc at) (p .1)
-      go none f g = let z : _≡_ {A = ℕ} 0 1 = cc in absurd (omega arith)
-      go (some i) f g =
-          let hit = scan-hits masks c (getD first s 0) (getD first (s + 1) 0 - getD first s 0) i f in
-          let k = inner h at s less a .each i (hit .after) (omega (arith, hit .after, hit .before)) in
-          let q : pairRow rows i ≡ p = cc in
-          subst (λ (x : ℕ × ℕ). Among counts (suc at) (x .0) × Among counts (suc at) (x .1)) q (record { after = k .left; before = k .leftTo }, record { after = k .right; before = k .rightTo })
-
   tree-same : (m at : ℕ) (w : List ℕ) (s : ℕ) → at + m ≡ n → Among counts at s
       → treeOf (tableAutomaton rows masks coefs first) (suc at) m w s ≡ treeOf (automatonOf (h .set)) (suc at) m w s
   tree-same zero at [] s e a = refl
@@ -55,7 +41,7 @@ module _ {rows masks : List ℕ} {coefs : List ℤ} {counts first : List ℕ} {n
   tree-same zero at (c ∷ d ∷ w) s e a = refl
   tree-same (suc m) at [] s e a = refl
   tree-same (suc m) at (c ∷ w) s e a =
-      go (choose c (movesIn rows masks first s)) refl (chosen at s c (omega arith) a) (λ q b. tree-same m (suc at) w q (omega arith) b)
+      go (choose c (movesIn rows masks first s)) refl (chosen h at s c (omega arith) a) (λ q b. tree-same m (suc at) w q (omega arith) b)
       ∙ ap (λ (o : Option (ℕ × ℕ)). andThen o U′) (ap (choose c) (sym (inner-alts (h .formed) (h .unpacked .holds) s (omega (arith, level-of h at s (omega arith) a, h .qubits)))))
     where
       U : ℕ → ℕ → Option (Tree (suc m))

@@ -3,12 +3,14 @@
 use mathlib.Core.Path.{_≡_, refl, sym, ap, _∙_, subst}
 use mathlib.Core.Bool.{Bool, true, false}
 use mathlib.Core.List.{List}
+use mathlib.Core.Option.{Option, none, some}
 use Prim.Native.Nat.{ℕ, zero, suc, _+_, _-_, _*_, _<_, _≤_}
 use native.Mathlib.Omega.{arith}
 use lib.Dec.{leb}
 use lib.IntN.{ℤ}
 use lib.ListN.{length, getD, take}
 use borrow.Author.Tests.{leb-true, leb-false}
+use Rattle.automata.specs.Choice.{mapO, choose}
 use Rattle.automata.specs.Sets.{QSet, sum}
 use Rattle.stored.specs.Rules.{levelOf}
 use Rattle.stored.proofs.WellFormed.{FineLF, lfs-fine, state-small}
@@ -16,14 +18,16 @@ use Rattle.tables.specs.Table.{trRow, lfRow, tableSet}
 use Rattle.tables.specs.States.{stateRow}
 use Rattle.tables.proofs.Beginnings.{below-splits}
 use Rattle.tables.proofs.Ordered.{formed-rises}
-use Rattle.lookup.specs.Lookup.{pairRow}
-use Rattle.lookup.proofs.Finding.{rising, begin, end, rows-there}
+use Rattle.lookup.specs.Lookup.{transitionRow, pairRow}
+use Rattle.lookup.specs.Alts.{altsFrom, movesIn}
+use Rattle.lookup.proofs.Finding.{rising, begin, end, rows-there, scan-hits}
 use Rattle.building.proofs.OldLeaves.{tr-at, lf-at, leaf-state}
+use Rattle.stepping.proofs.Answers.{choose-rows}
 use Rattle.stepping.specs.Step.{Kin, Inner}
 use Rattle.fitting.specs.Fit.{LeafRow, Leafy}
-use Rattle.matching.specs.Levels.{startOf}
+use Rattle.matching.specs.Levels.{startOf, Among}
 use Rattle.matching.specs.Seeking.{Held}
-use Rattle.matching.proofs.LevelLaws.{start-take, start-most, Among, level-at, level-tells}
+use Rattle.matching.proofs.LevelLaws.{start-take, start-most, level-at, level-tells}
 
 module _ {rows masks : List ℕ} {coefs : List ℤ} {counts first : List ℕ} {n : ℕ} (h : Held rows masks coefs counts first n) where
   counts-are : take (h .set .n + 1) counts ≡ h .set .counts
@@ -110,6 +114,20 @@ module _ {rows masks : List ℕ} {coefs : List ℤ} {counts first : List ℕ} {n
       long = omega (arith, rows-there (h .unpacked .holds) (formed-rises (h .bounds) (h .set) (h .formed)) s there, h .roomy .table .long);
       each = kin;
     }
+
+  -- both children of a state stand on the next level
+  pub chosen : (at s c : ℕ) → at < n → Among counts at s → (p : ℕ × ℕ) → choose c (movesIn rows masks first s) ≡ some p → Among counts (suc at) (p .0) × Among counts (suc at) (p .1)
+  unfolding altsFrom
+  chosen at s c less a p e =
+      go (transitionRow masks first s c) refl (sym (choose-rows (pairRow rows) masks c (getD first s 0) (getD first (s + 1) 0 - getD first s 0)) ∙ e)
+    where
+      go : (o : Option ℕ) → transitionRow masks first s c ≡ o → mapO (pairRow rows) o ≡ some p → Among counts (suc at) (p .0) × Among counts (suc at) (p .1)
+      go none f g = let z : _≡_ {A = ℕ} 0 1 = cc in absurd (omega arith)
+      go (some i) f g =
+          let hit = scan-hits masks c (getD first s 0) (getD first (s + 1) 0 - getD first s 0) i f in
+          let k = inner at s less a .each i (hit .after) (omega (arith, hit .after, hit .before)) in
+          let q : pairRow rows i ≡ p = cc in
+          subst (λ (x : ℕ × ℕ). Among counts (suc at) (x .0) × Among counts (suc at) (x .1)) q (record { after = k .left; before = k .leftTo }, record { after = k .right; before = k .rightTo })
 
   pub leafy : (s : ℕ) → Among counts n s → Leafy rows masks coefs first s
   leafy s a =

@@ -10,7 +10,7 @@ use lib.Seq.{getD-take}
 use borrow.Author.Tests.{ltb-true, ltb-false}
 use Rattle.automata.specs.Sets.{sum, levelIn}
 use Rattle.stored.proofs.Levels.{level-from, level-first, level-later}
-use Rattle.matching.specs.Levels.{startOf}
+use Rattle.matching.specs.Levels.{startOf, Among}
 
 start-cons : (c : ℕ) (cs : List ℕ) (at : ℕ) → startOf (c ∷ cs) (suc at) ≡ c + startOf cs at
 unfolding startOf
@@ -51,11 +51,6 @@ level-at i (c ∷ cs) (suc at) s h lo hi =
     let b = start-cons c cs (suc at) in
     let e : suc i + at ≡ i + suc at = omega arith in
     level-later i c cs s (omega arith) ∙ level-at (suc i) cs at (s - c) (omega arith) (omega arith) (omega arith) ∙ e
-
--- the state's number stands among those of level at + 1
-pub record Among (counts : List ℕ) (at s : ℕ) : Type 0 where
-  pub after : startOf counts at ≤ s
-  pub before : s < startOf counts (suc at)
 
 pub level-tells : (i : ℕ) (cs : List ℕ) (at s : ℕ) → at < length cs → levelIn i cs s ≡ i + at → Among cs at s
 level-tells i [] at s h e = absurd (omega arith)

@@ -4,3 +4,4 @@ pub mod Words
 pub mod Turns
 pub mod Roots
 pub mod Exact
+pub mod Sounding

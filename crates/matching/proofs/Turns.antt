@@ -26,10 +26,11 @@ use Rattle.meeting.proofs.MetLaws.{On, Same, met-same, met-fails}
 use Rattle.stepping.specs.Step.{kids, kidsIn, Kept, Gone, Stage}
 use Rattle.stepping.proofs.Answers.{has-taken}
 use Rattle.sharing.specs.Shared.{hasChoice, LevelOpen}
+use Rattle.hinting.specs.Hint.{LevelThere}
 use Rattle.fitting.specs.Fit.{leavesIn, LeafStage}
-use Rattle.matching.specs.Levels.{startOf, IsLevel, NextFits}
-use Rattle.matching.specs.Seeking.{wordFrom, anyWord, twins, sought, tried, Lent, Seeking}
-use Rattle.matching.proofs.LevelLaws.{start-next, Among}
+use Rattle.matching.specs.Levels.{startOf, Among, IsLevel, NextFits}
+use Rattle.matching.specs.Seeking.{wordFrom, anyWord, twins, sought, tried, Sound, Hints, Lent, Seeking}
+use Rattle.matching.proofs.LevelLaws.{start-next}
 use Rattle.matching.proofs.Grounds.{starts-small, level-there, inner, leafy}
 use Rattle.matching.proofs.Words.{one-ext, any-ext, any-none}
 
@@ -51,14 +52,14 @@ module _ (S E : Automaton ℕ) where
       go (some p) (some q) = two-trees S E n (treeOf S (suc i) n w (p .0)) (treeOf S (suc i) n w (p .1)) (treeOf E (suc i) n v (q .0)) (treeOf E (suc i) n v (q .1))
 
   module _ (word : List ℕ) where
-    twins-step : (at m d : ℕ) (v : List ℕ) (s e : ℕ)
+    pub twins-step : (at m d : ℕ) (v : List ℕ) (s e : ℕ)
         → twins S E word at (suc m) (d ∷ v) s e ≡ kids (twins S E word (at + 1) m v) (choose (getD word at 0) (S .moves (suc at) s)) (choose d (E .moves (suc at) e))
     unfolding wordFrom
     twins-step at m d v s e =
         pairs-step (suc at) m (getD word at 0) d (wordFrom word (at + 1) m) v s e
         ∙ ap (λ (i : ℕ). kids (λ l r. matches S E (suc i) m (wordFrom word (at + 1) m) v (l, r)) (choose (getD word at 0) (S .moves (suc at) s)) (choose d (E .moves (suc at) e))) (sym (add-one at))
 
-    twins-last : (at d s e : ℕ) → twins S E word at 0 (d ∷ []) s e ≡ sameLeaves (choose (getD word at 0) (S .ends s)) (choose d (E .ends e))
+    pub twins-last : (at d s e : ℕ) → twins S E word at 0 (d ∷ []) s e ≡ sameLeaves (choose (getD word at 0) (S .ends s)) (choose d (E .ends e))
     unfolding wordFrom
     twins-last at d s e = go (choose (getD word at 0) (S .ends s)) (choose d (E .ends e))
       where
@@ -120,7 +121,16 @@ module _ (rows masks : List ℕ) (coefs : List ℤ) (first endRows endMasks : Li
   no-attempt at m d wide met l e =
       sym (any-none (suc m) (λ v. allMet (twins S E word at (suc m) (d ∷ v)) wide met l)
       (λ v. met-fails (twins S E word at (suc m) (d ∷ v)) (hasChoice endMasks endFirst d) wide met l
-      (λ s f h. has-taken (pairRow endRows) endMasks endFirst f d ∙ kids-there (twins S E word (at + 1) m v) (choose (getD word at 0) (S .moves (suc at) s)) (choose d (E .moves (suc at) f)) (sym (twins-step S E word at m d v s f) ∙ h)) e))
+      (λ s f on h. has-taken (pairRow endRows) endMasks endFirst f d ∙ kids-there (twins S E word (at + 1) m v) (choose (getD word at 0) (S .moves (suc at) s)) (choose d (E .moves (suc at) f)) (sym (twins-step S E word at m d v s f) ∙ h)) e))
+
+  -- a pair that could not match
+  pub no-may : (at m wide : ℕ) (may met : List ℕ) (counts endCounts : List ℕ) (n : ℕ) {l : Level} → IsLevel counts endCounts at l → at + m ≡ n → Sound S E word counts endCounts wide may 0 n
+      → allMet (isMet wide may) wide met l ≡ false → false ≡ sought S E word at m wide met l
+  no-may at m wide may met counts endCounts n {l} is e t f =
+      sym (any-none (suc m) (λ v. allMet (twins S E word at m v) wide met l)
+      (λ v. met-fails (twins S E word at m v) (isMet wide may) wide met l
+      (λ s q on h. t .each at m (omega arith) e s q (record { after = omega (arith, on .after, is .from); before = omega (arith, on .before, is .to) })
+      (record { after = omega (arith, on .endAfter, is .start); before = omega (arith, on .endBefore, is .stop) }) v h) f))
 
   -- one level down by choice d
   module _ (at m d wide : ℕ) (met : List ℕ) (l : Level) {next : Level} {met′ : List ℕ} {r : Bool}
@@ -249,3 +259,26 @@ module _ {rows masks : List ℕ} {coefs : List ℤ} {counts first endRows endMas
     image = λ s lo hi. rw (from-is, to-is) (inner (t .lent .image) at s (omega arith) (record { after = omega (arith, t .here .from); before = omega (arith, t .here .to) }));
     ends = λ e lo hi. rw (start-is, stop-is) (inner (t .lent .ends) at e (omega arith) (record { after = omega (arith, t .here .start); before = omega (arith, t .here .stop) }));
   }
+
+-- ---- the marks of pairs that could match
+pub hints-again : {S E : Automaton ℕ} {word counts endCounts : List ℕ} {wide : ℕ} {may : List ℕ} {n n′ : ℕ} → n′ ≡ n → Hints S E word counts endCounts wide may n → Hints S E word counts endCounts wide may n′
+hints-again e h = rw e h
+
+resized : {rows masks : List ℕ} {coefs : List ℤ} {counts first endRows endMasks : List ℕ} {endCoefs : List ℤ} {endCounts endFirst word : List ℕ} {wide size at m : ℕ} {l : Level} (size′ : ℕ)
+    → startOf counts (suc (at + m)) * wide ≤ size′ → Seeking rows masks coefs counts first endRows endMasks endCoefs endCounts endFirst word wide size at m l
+    → Seeking rows masks coefs counts first endRows endMasks endCoefs endCounts endFirst word wide size′ at m l
+resized size′ h t = record {
+  lent = record { image = t .lent .image; ends = t .lent .ends; letters = t .lent .letters; small = t .lent .small; long = h; narrow = t .lent .narrow };
+  here = t .here;
+}
+
+pub level-places : {rows masks : List ℕ} {coefs : List ℤ} {counts first endRows endMasks : List ℕ} {endCoefs : List ℤ} {endCounts endFirst word : List ℕ} {wide size at : ℕ} {l : Level} (m size′ : ℕ)
+    → startOf counts (suc (at + m)) * wide ≤ size′ → Seeking rows masks coefs counts first endRows endMasks endCoefs endCounts endFirst word wide size at m l → LevelThere wide size′ size l
+level-places {wide = wide} {l = l} m size′ h t = record {
+  each = λ s lo hi. record {
+    each = λ e lo′ hi′. (
+      record { long = omega (arith, words-before wide s (l .to) hi, long-level m (resized size′ h t)); narrow = omega (arith, small-level m t) },
+      record { long = omega (arith, words-before wide s (l .to) hi, long-level m t); narrow = omega (arith, small-level m t) },
+    );
+  };
+}

@@ -1,7 +1,7 @@
 -- Document 01, "States are numbered from 0, level by level": where the states of a level begin, and the numbers of both sets' states on it.
 use mathlib.Core.Path.{_≡_}
 use mathlib.Core.List.{List}
-use Prim.Native.Nat.{ℕ, zero, suc, _+_, _<_}
+use Prim.Native.Nat.{ℕ, zero, suc, _+_, _<_, _≤_}
 use lib.ListN.{length, getD}
 use Rattle.meeting.specs.declared.Level.{Level}
 
@@ -9,6 +9,11 @@ use Rattle.meeting.specs.declared.Level.{Level}
 unfoldable pub startOf : List ℕ → ℕ → ℕ
 startOf counts zero = 0
 startOf counts (suc at) = startOf counts at + getD counts at 0
+
+-- the state's number stands among those of level at + 1
+pub record Among (counts : List ℕ) (at s : ℕ) : Type 0 where
+  pub after : startOf counts at ≤ s
+  pub before : s < startOf counts (suc at)
 
 -- the states of both sets on level at + 1
 pub record IsLevel (counts endCounts : List ℕ) (at : ℕ) (l : Level) : Type 0 where

@@ -1,7 +1,7 @@
 -- The search on tables, level by level over the marks of the pairs that are met: some word of the end set gives every such pair equal trees.
 -- What it asks: both tables hold well-formed sets of n qubits, the word has their choices, and every pair has its place in the row of marks.
 use mathlib.Core.Path.{_≡_}
-use mathlib.Core.Bool.{Bool}
+use mathlib.Core.Bool.{Bool, true}
 use mathlib.Core.List.{List, [], _∷_}
 use Prim.Native.Nat.{ℕ, zero, suc, _+_, _*_, _<_, _≤_}
 use lib.IntN.{ℤ}
@@ -16,8 +16,9 @@ use Rattle.verdict.specs.Search.{fitsOne}
 use Rattle.verdict.proofs.Searching.{matches}
 use Rattle.tables.specs.Ready.{Roomy, Unpacked}
 use Rattle.meeting.specs.declared.Level.{Level}
+use Rattle.meeting.specs.Met.{isMet}
 use Rattle.meeting.specs.All.{allMet}
-use Rattle.matching.specs.Levels.{startOf, IsLevel}
+use Rattle.matching.specs.Levels.{startOf, Among, IsLevel}
 
 -- the choices of a word from place `at` on, m + 1 of them
 unfoldable pub wordFrom : List ℕ → ℕ → ℕ → List ℕ
@@ -41,6 +42,15 @@ module _ (S E : Automaton ℕ) (word : List ℕ) where
   -- one that begins with choice d does, with m + 1 qubits from there on
   abbrev pub tried : ℕ → ℕ → ℕ → ℕ → List ℕ → Level → Bool
   tried at m d wide met l = anyWord (suc m) (λ v. allMet (twins at (suc m) (d ∷ v)) wide met l)
+
+-- the marks of levels at + 1 and on have every pair whose trees are equal by some word of the end set
+pub record Sound (S E : Automaton ℕ) (word counts endCounts : List ℕ) (wide : ℕ) (may : List ℕ) (at n : ℕ) : Type 0 where
+  pub each : (a k : ℕ) → at ≤ a → a + k ≡ n → (s e : ℕ) → Among counts a s → Among endCounts a e → (v : List ℕ) → twins S E word a k v s e ≡ true → isMet wide may s e ≡ true
+
+-- the same of all levels, and the row of marks has their places
+pub record Hints (S E : Automaton ℕ) (word counts endCounts : List ℕ) (wide : ℕ) (may : List ℕ) (n : ℕ) : Type 0 where
+  pub sound : Sound S E word counts endCounts wide may 0 n
+  pub long : startOf counts (suc n) * wide ≤ length may
 
 -- the slices hold a well-formed set of n qubits
 pub record Held (rows masks : List ℕ) (coefs : List ℤ) (counts first : List ℕ) (n : ℕ) : Type 0 where

@@ -1,9 +1,12 @@
 // Is a member's tree a state of the end set? The member's word is carried through the image's table, level by level, beside every word of the
 // end set's table: one choice of the end set for all pairs of a level, all pairs of an image state and an end state that must match, and
-// going back over choices. The marks of all levels stand in one lent row.
+// going back over choices. The marks of all levels stand in one lent row, and in a second one those of the pairs that could match at all.
 use fitting::fit_any;
+use hinting::all_may;
+use hinting::hint_level;
 use lookup::has_choice;
 use meeting::Level;
+use meeting::is_met;
 use meeting::meet;
 use meeting::meet_none;
 use sharing::shared_choices;
@@ -19,7 +22,7 @@ ghost use Rattle.meeting.specs.All.{allMet};
 ghost use Rattle.sharing.specs.Shared.{hasChoice};
 ghost use Rattle.stepping.specs.Step.{Kept};
 ghost use Rattle.matching.specs.Levels.{IsLevel, NextFits};
-ghost use Rattle.matching.specs.Seeking.{sought, tried, Lent, Seeking};
+ghost use Rattle.matching.specs.Seeking.{sought, tried, Sound, Hints, Lent, Seeking};
 
 // The next level's states.
 fn next_level(counts: &[u16], endcounts: &[u16], at: u8, level: Level) -> Level
@@ -35,6 +38,84 @@ fn next_level(counts: &[u16], endcounts: &[u16], at: u8, level: Level) -> Level
         start,
         stop: start + endcounts[below],
     }
+}
+
+// The pairs that could match at all by the word, on this level and all below it, are marked.
+fn hint_from(
+    left: u8,
+    at: u8,
+    rows: &[u16],
+    masks: &[u32],
+    coefs: &[i32],
+    counts: &[u16],
+    first: &[u16],
+    endrows: &[u16],
+    endmasks: &[u32],
+    endcoefs: &[i32],
+    endcounts: &[u16],
+    endfirst: &[u16],
+    word: &[u8],
+    may: &mut [u32],
+    wide: u16,
+    level: Level,
+)
+    requires { ⌜ Seeking (now rows) (now masks) (now coefs) (now counts) (now first) (now endrows) (now endmasks) (now endcoefs) (now endcounts) (now endfirst) (now word) wide (length (now may)) at left level ⌝ }
+    ensures { λ _. ⌜ Sound (tableAutomaton (now (rows .entry)) (now (masks .entry)) (now (coefs .entry)) (now (first .entry))) (tableAutomaton (now (endrows .entry)) (now (endmasks .entry)) (now (endcoefs .entry)) (now (endfirst .entry))) (now (word .entry)) (now (counts .entry)) (now (endcounts .entry)) wide (now (may .exit)) at (at + left) ⌝ }
+{
+    let c = word[at as usize];
+    meet_none(may, wide, level.from, level.to);
+    if left == 0 {
+        hint_level(
+            rows,
+            masks,
+            coefs,
+            first,
+            endrows,
+            endmasks,
+            endcoefs,
+            endfirst,
+            may,
+            wide,
+            c,
+            true,
+            level,
+        );
+        return;
+    }
+    let next = next_level(counts, endcounts, at, level);
+    hint_from(
+        left - 1,
+        at + 1,
+        rows,
+        masks,
+        coefs,
+        counts,
+        first,
+        endrows,
+        endmasks,
+        endcoefs,
+        endcounts,
+        endfirst,
+        word,
+        may,
+        wide,
+        next,
+    );
+    hint_level(
+        rows,
+        masks,
+        coefs,
+        first,
+        endrows,
+        endmasks,
+        endcoefs,
+        endfirst,
+        may,
+        wide,
+        c,
+        false,
+        level,
+    );
 }
 
 // With choice d of the end set on this level, some word of the end set gives equal trees to all pairs that are met on it. `shared` has the
@@ -53,13 +134,14 @@ fn attempt(
     endcounts: &[u16],
     endfirst: &[u16],
     word: &[u8],
+    may: &[u32],
     met: &mut [u32],
     wide: u16,
     d: u8,
     level: Level,
     shared: u32,
 ) -> bool
-    requires { ⌜ Seeking (now rows) (now masks) (now coefs) (now counts) (now first) (now endrows) (now endmasks) (now endcoefs) (now endcounts) (now endfirst) (now word) wide (length (now met)) at (suc left) level × (d < choicesMost) × (has shared d ≡ allMet (hasChoice (now endmasks) (now endfirst) d) wide (now met) level) ⌝ }
+    requires { ⌜ Seeking (now rows) (now masks) (now coefs) (now counts) (now first) (now endrows) (now endmasks) (now endcoefs) (now endcounts) (now endfirst) (now word) wide (length (now met)) at (suc left) level × Hints (tableAutomaton (now rows) (now masks) (now coefs) (now first)) (tableAutomaton (now endrows) (now endmasks) (now endcoefs) (now endfirst)) (now word) (now counts) (now endcounts) wide (now may) (at + suc left) × (d < choicesMost) × (has shared d ≡ allMet (hasChoice (now endmasks) (now endfirst) d) wide (now met) level) ⌝ }
     ensures { λ r. ⌜ (r ≡ tried (tableAutomaton (now (rows .entry)) (now (masks .entry)) (now (coefs .entry)) (now (first .entry))) (tableAutomaton (now (endrows .entry)) (now (endmasks .entry)) (now (endcoefs .entry)) (now (endfirst .entry))) (now (word .entry)) at left d wide (now (met .entry)) level) × Kept wide (now (met .entry)) (level .to) (now (met .exit)) ⌝ }
 {
     if !has_choice(shared, d) {
@@ -83,6 +165,9 @@ fn attempt(
     ) {
         return false;
     }
+    if !all_may(may, met, wide, next) {
+        return false;
+    }
     seek(
         left,
         at + 1,
@@ -97,6 +182,7 @@ fn attempt(
         endcounts,
         endfirst,
         word,
+        may,
         met,
         wide,
         next,
@@ -118,11 +204,12 @@ fn seek(
     endcounts: &[u16],
     endfirst: &[u16],
     word: &[u8],
+    may: &[u32],
     met: &mut [u32],
     wide: u16,
     level: Level,
 ) -> bool
-    requires { ⌜ Seeking (now rows) (now masks) (now coefs) (now counts) (now first) (now endrows) (now endmasks) (now endcoefs) (now endcounts) (now endfirst) (now word) wide (length (now met)) at left level ⌝ }
+    requires { ⌜ Seeking (now rows) (now masks) (now coefs) (now counts) (now first) (now endrows) (now endmasks) (now endcoefs) (now endcounts) (now endfirst) (now word) wide (length (now met)) at left level × Hints (tableAutomaton (now rows) (now masks) (now coefs) (now first)) (tableAutomaton (now endrows) (now endmasks) (now endcoefs) (now endfirst)) (now word) (now counts) (now endcounts) wide (now may) (at + left) ⌝ }
     ensures { λ r. ⌜ (r ≡ sought (tableAutomaton (now (rows .entry)) (now (masks .entry)) (now (coefs .entry)) (now (first .entry))) (tableAutomaton (now (endrows .entry)) (now (endmasks .entry)) (now (endcoefs .entry)) (now (endfirst .entry))) (now (word .entry)) at left wide (now (met .entry)) level) × Kept wide (now (met .entry)) (level .to) (now (met .exit)) ⌝ }
 {
     if left == 0 {
@@ -159,6 +246,7 @@ fn seek(
             endcounts,
             endfirst,
             word,
+            may,
             met,
             wide,
             d,
@@ -186,14 +274,18 @@ fn from_root(
     endcounts: &[u16],
     endfirst: &[u16],
     word: &[u8],
+    may: &[u32],
     met: &mut [u32],
     wide: u16,
     r: u16,
     e: u16,
 ) -> bool
-    requires { ⌜ Lent (now rows) (now masks) (now coefs) (now counts) (now first) (now endrows) (now endmasks) (now endcoefs) (now endcounts) (now endfirst) (now word) wide (length (now met)) n × (r < getD (now counts) 0 0) × (e < getD (now endcounts) 0 0) ⌝ }
+    requires { ⌜ Lent (now rows) (now masks) (now coefs) (now counts) (now first) (now endrows) (now endmasks) (now endcoefs) (now endcounts) (now endfirst) (now word) wide (length (now met)) n × Hints (tableAutomaton (now rows) (now masks) (now coefs) (now first)) (tableAutomaton (now endrows) (now endmasks) (now endcoefs) (now endfirst)) (now word) (now counts) (now endcounts) wide (now may) n × (r < getD (now counts) 0 0) × (e < getD (now endcounts) 0 0) ⌝ }
     ensures { λ b. ⌜ b ≡ found (tableAutomaton (now (rows .entry)) (now (masks .entry)) (now (coefs .entry)) (now (first .entry))) (tableAutomaton (now (endrows .entry)) (now (endmasks .entry)) (now (endcoefs .entry)) (now (endfirst .entry))) 1 n (take (n + 1) (now (word .entry))) ((r, e) ∷ []) ⌝ }
 {
+    if !is_met(may, wide, r, e) {
+        return false;
+    }
     let level = Level {
         from: 0,
         to: counts[0],
@@ -216,6 +308,7 @@ fn from_root(
         endcounts,
         endfirst,
         word,
+        may,
         met,
         wide,
         level,
@@ -236,14 +329,39 @@ pub fn is_state(
     endcounts: &[u16],
     endfirst: &[u16],
     word: &[u8],
+    may: &mut [u32],
     met: &mut [u32],
     wide: u16,
     r: u16,
 ) -> bool
-    requires { ⌜ Lent (now rows) (now masks) (now coefs) (now counts) (now first) (now endrows) (now endmasks) (now endcoefs) (now endcounts) (now endfirst) (now word) wide (length (now met)) n × (r < getD (now counts) 0 0) ⌝ }
+    requires { ⌜ Lent (now rows) (now masks) (now coefs) (now counts) (now first) (now endrows) (now endmasks) (now endcoefs) (now endcounts) (now endfirst) (now word) wide (length (now met)) n × Lent (now rows) (now masks) (now coefs) (now counts) (now first) (now endrows) (now endmasks) (now endcoefs) (now endcounts) (now endfirst) (now word) wide (length (now may)) n × (r < getD (now counts) 0 0) ⌝ }
     ensures { λ b. ⌜ b ≡ searched (tableAutomaton (now (rows .entry)) (now (masks .entry)) (now (coefs .entry)) (now (first .entry))) (tableAutomaton (now (endrows .entry)) (now (endmasks .entry)) (now (endcoefs .entry)) (now (endfirst .entry))) (getD (now (endcounts .entry)) 0 0) n (take (n + 1) (now (word .entry))) r ⌝ }
 {
     let roots = endcounts[0];
+    let level = Level {
+        from: 0,
+        to: counts[0],
+        start: 0,
+        stop: roots,
+    };
+    hint_from(
+        n,
+        0,
+        rows,
+        masks,
+        coefs,
+        counts,
+        first,
+        endrows,
+        endmasks,
+        endcoefs,
+        endcounts,
+        endfirst,
+        word,
+        may,
+        wide,
+        level,
+    );
     let mut e: u16 = 0;
     while e < roots {
         if from_root(
@@ -259,6 +377,7 @@ pub fn is_state(
             endcounts,
             endfirst,
             word,
+            may,
             met,
             wide,
             r,

@@ -67,10 +67,10 @@ met-same g h wide met met′ l w t =
     ap₂ (λ (a b : Bool). cond a b true) (w .each s e on) (t s e on)))
 
 -- a test that no pair passes unless it passes another one
-pub met-fails : (g h : ℕ → ℕ → Bool) (wide : ℕ) (met : List ℕ) (l : Level) → ((s e : ℕ) → g s e ≡ true → h s e ≡ true) → allMet h wide met l ≡ false → allMet g wide met l ≡ false
+pub met-fails : (g h : ℕ → ℕ → Bool) (wide : ℕ) (met : List ℕ) (l : Level) → ((s e : ℕ) → On l s e → g s e ≡ true → h s e ≡ true) → allMet h wide met l ≡ false → allMet g wide met l ≡ false
 met-fails g h wide met l t e =
     same-test (allMet g wide met l) false
-    (λ k. sym e ∙ met-is h wide met l (record { each = λ s f on m. t s f (met-tells g wide met l k .each s f on m) })) (λ z. absurd (false≢true z))
+    (λ k. sym e ∙ met-is h wide met l (record { each = λ s f on m. t s f on (met-tells g wide met l k .each s f on m) })) (λ z. absurd (false≢true z))
 
 -- ---- one pair more
 module _ (g : ℕ → ℕ → Bool) {wide : ℕ} {met met′ : List ℕ} {l : Level} {s e : ℕ} (narrow : l .stop ≤ wide * 32) (on : On l s e) (m : Meeting wide met s e met′) where

@@ -6,6 +6,8 @@ use Prim.Native.Nat.{ℕ, suc, _+_, _*_, _/_, _<_, _≤_}
 use native.Mathlib.Decide.{decLt}
 use native.Mathlib.Nat.{suc-mul, mul-le-mul, mul-le-mul-right}
 use native.Mathlib.Omega.{arith}
+use lib.Dec.{eqb}
+use borrow.Author.Tests.{eqb-true, eqb-false}
 use Rattle.flags.specs.Flags.{flagAt, Flagged, Cleared}
 use Rattle.meeting.specs.Met.{place, isMet, Meeting, Emptied}
 
@@ -31,11 +33,19 @@ own-place wide s e q f h k p = go (decLt q s) (decLt s q)
         let same : q ≡ s = omega arith in
         (same, omega (arith, ap (λ (x : ℕ). x * wide) same))
 
+flag-grows : {words words′ : List ℕ} {i : ℕ} → Flagged words i words′ → (j : ℕ) → flagAt words j ≡ true → flagAt words′ j ≡ true
+flag-grows {words} {words′} {i} w j h = go (eqb j i) refl
+  where
+    go : (b : Bool) → eqb j i ≡ b → flagAt words′ j ≡ true
+    go true e = ap (flagAt words′) (eqb-true j i e) ∙ w .here
+    go false e = w .others j (eqb-false j i e) ∙ h
+
 pub met-flag : (wide : ℕ) {met met′ : List ℕ} (s e : ℕ) → e < wide * 32 → Flagged met (place wide s e) met′ → Meeting wide met s e met′
 unfolding isMet
 met-flag wide s e h w = record {
   here = w .here;
   others = λ q f k apart. w .others (place wide q f) (λ p. apart (own-place wide s e q f h k p));
+  grows = λ q f k. flag-grows w (place wide q f) k;
 }
 
 pub emptied-words : (wide : ℕ) {met met′ : List ℕ} (from to : ℕ) → Cleared met (from * wide) (to * wide) met′ → Emptied wide met from to met′

@@ -23,6 +23,7 @@ pub record There (wide size s e : ℕ) : Type 0 where
 pub record Meeting (wide : ℕ) (met : List ℕ) (s e : ℕ) (met′ : List ℕ) : Type 0 where
   pub here : isMet wide met′ s e ≡ true
   pub others : (q f : ℕ) → f < wide * 32 → ((q ≡ s) × (f ≡ e) → ⊥) → isMet wide met′ q f ≡ isMet wide met q f
+  pub grows : (q f : ℕ) → isMet wide met q f ≡ true → isMet wide met′ q f ≡ true
 
 -- the image states from `from` up to below `to` meet none now, and the other pairs are what they were
 pub record Emptied (wide : ℕ) (met : List ℕ) (from to : ℕ) (met′ : List ℕ) : Type 0 where
