@@ -14,9 +14,9 @@ use borrow.Author.Tests.{eqb-true, eqb-false}
 use Rattle.automata.specs.Choice.{choicesMost}
 use Rattle.automata.specs.Sets.{sum}
 use Rattle.jobs.specs.Reply.{wordPlaces}
-use Rattle.matching.specs.Levels.{startOf}
+use Rattle.matching.specs.Levels.{startOf, Among}
 use Rattle.matching.specs.Seeking.{Held, Lent}
-use Rattle.matching.proofs.LevelLaws.{start-zero, start-next, start-most, Among}
+use Rattle.matching.proofs.LevelLaws.{start-zero, start-next, start-most}
 use Rattle.matching.proofs.Grounds.{start-is, starts-small, level-there, inner, leafy}
 use Rattle.reaching.specs.Reached.{Stage, Ended}
 use Rattle.walking.specs.Walk.{Both, Visiting}
@@ -45,23 +45,24 @@ all-states : {rows masks : List ℕ} {coefs : List ℤ} {counts first : List ℕ
 all-states {n = n} h = omega (arith, start-is h (suc n) (omega arith), start-most (h .set .counts) (suc n))
 
 -- what a walk asks, by the numbers of states of both sets
-pub both-from : {rows masks : List ℕ} {coefs : List ℤ} {counts first endRows endMasks : List ℕ} {endCoefs : List ℤ} {endCounts endFirst : List ℕ} {wide size cells n : ℕ}
+pub both-from : {rows masks : List ℕ} {coefs : List ℤ} {counts first endRows endMasks : List ℕ} {endCoefs : List ℤ} {endCounts endFirst : List ℕ} {wide hints size cells n : ℕ}
     (h : Held rows masks coefs counts first n) (e : Held endRows endMasks endCoefs endCounts endFirst n)
-    → sum (h .set .counts) * wide ≤ size → sum (e .set .counts) ≤ wide * 32 → sum (h .set .counts) ≤ cells
-    → Both rows masks coefs counts first endRows endMasks endCoefs endCounts endFirst wide size cells n
-both-from {wide = wide} h e long narrow celled = record {
+    → sum (h .set .counts) * wide ≤ hints → sum (h .set .counts) * wide ≤ size → sum (e .set .counts) ≤ wide * 32 → sum (h .set .counts) ≤ cells
+    → Both rows masks coefs counts first endRows endMasks endCoefs endCounts endFirst wide hints size cells n
+both-from {wide = wide} h e hinted long narrow celled = record {
   image = h;
   ends = e;
+  hinted = omega (arith, mul-le-mul-right wide (all-states h), hinted);
   long = omega (arith, mul-le-mul-right wide (all-states h), long);
   narrow = omega (arith, all-states e, narrow);
   celled = omega (arith, all-states h, celled);
 }
 
-module _ {rows masks : List ℕ} {coefs : List ℤ} {counts first endRows endMasks : List ℕ} {endCoefs : List ℤ} {endCounts endFirst : List ℕ} {wide size cells n : ℕ} where
+module _ {rows masks : List ℕ} {coefs : List ℤ} {counts first endRows endMasks : List ℕ} {endCoefs : List ℤ} {endCounts endFirst : List ℕ} {wide hints size cells n : ℕ} where
   -- ---- both tables
-  module _ (g : Both rows masks coefs counts first endRows endMasks endCoefs endCounts endFirst wide size cells n) where
-    pub both-again : {size′ cells′ : ℕ} → size′ ≡ size → cells′ ≡ cells → Both rows masks coefs counts first endRows endMasks endCoefs endCounts endFirst wide size′ cells′ n
-    both-again e f = rw (e, f) g
+  module _ (g : Both rows masks coefs counts first endRows endMasks endCoefs endCounts endFirst wide hints size cells n) where
+    pub both-again : {hints′ size′ cells′ : ℕ} → hints′ ≡ hints → size′ ≡ size → cells′ ≡ cells → Both rows masks coefs counts first endRows endMasks endCoefs endCounts endFirst wide hints′ size′ cells′ n
+    both-again d e f = rw (d, e, f) g
 
     pub few-levels : n ≤ 20
     few-levels = omega (arith, g .image .formed .nFew, g .image .qubits)
@@ -72,17 +73,19 @@ module _ {rows masks : List ℕ} {coefs : List ℤ} {counts first endRows endMas
     pub roots-celled : getD counts 0 0 ≤ cells
     roots-celled = omega (arith, start-zero counts, start-next counts 0, start-up counts 1 (suc n) (omega arith), g .celled)
 
-    abbrev pub lent : (word : List ℕ) → length word ≡ wordPlaces → ((i : ℕ) → getD word i 0 < choicesMost) → Lent rows masks coefs counts first endRows endMasks endCoefs endCounts endFirst word wide size n
-    lent word long small = record {
+    -- for the search: the tables, the word, and a row of marks of any length that is enough
+    abbrev pub lent : (word : List ℕ) → length word ≡ wordPlaces → ((i : ℕ) → getD word i 0 < choicesMost) → {row : ℕ} → startOf counts (suc n) * wide ≤ row
+        → Lent rows masks coefs counts first endRows endMasks endCoefs endCounts endFirst word wide row n
+    lent word long small enough = record {
       image = g .image;
       ends = g .ends;
       letters = omega (arith, few-levels);
       small = λ i le. small i;
-      long = g .long;
+      long = enough;
       narrow = g .narrow;
     }
 
-    pub visit-begins : (root : ℕ) → root < getD counts 0 0 → Visiting rows masks coefs counts first endRows endMasks endCoefs endCounts endFirst wide size cells n 0 n 0 (getD counts 0 0) root (replicate wordPlaces 0)
+    pub visit-begins : (root : ℕ) → root < getD counts 0 0 → Visiting rows masks coefs counts first endRows endMasks endCoefs endCounts endFirst wide hints size cells n 0 n 0 (getD counts 0 0) root (replicate wordPlaces 0)
     visit-begins root lt = record {
       both = g;
       levels = omega arith;
@@ -93,9 +96,9 @@ module _ {rows masks : List ℕ} {coefs : List ℤ} {counts first endRows endMas
     }
 
   -- ---- one level
-  module _ {at m from to root : ℕ} {word : List ℕ} (v : Visiting rows masks coefs counts first endRows endMasks endCoefs endCounts endFirst wide size cells n at m from to root word) where
-    pub visit-again : {size′ cells′ : ℕ} → size′ ≡ size → cells′ ≡ cells → Visiting rows masks coefs counts first endRows endMasks endCoefs endCounts endFirst wide size′ cells′ n at m from to root word
-    visit-again e f = rw (e, f) v
+  module _ {at m from to root : ℕ} {word : List ℕ} (v : Visiting rows masks coefs counts first endRows endMasks endCoefs endCounts endFirst wide hints size cells n at m from to root word) where
+    pub visit-again : {hints′ size′ cells′ : ℕ} → hints′ ≡ hints → size′ ≡ size → cells′ ≡ cells → Visiting rows masks coefs counts first endRows endMasks endCoefs endCounts endFirst wide hints′ size′ cells′ n at m from to root word
+    visit-again d e f = rw (d, e, f) v
 
     pub at-few : at + m ≤ 20
     at-few = omega (arith, v .levels, few-levels (v .both))
@@ -103,8 +106,15 @@ module _ {rows masks : List ℕ} {coefs : List ℤ} {counts first endRows endMas
     pub level-celled : to ≤ cells
     level-celled = omega (arith, v .stops, start-up counts (suc at) (suc n) (omega (arith, v .levels)), v .both .celled)
 
-    pub word-lent : (c : ℕ) → c < choicesMost → length word ≡ wordPlaces → Lent rows masks coefs counts first endRows endMasks endCoefs endCounts endFirst (set word at c) wide size n
-    word-lent c lt long = lent (v .both) (set word at c) (length-set word at c ∙ long) (small-set word at c (v .small) lt (omega (arith, at-few)))
+    word-lent : (c : ℕ) → c < choicesMost → length word ≡ wordPlaces → {row : ℕ} → startOf counts (suc n) * wide ≤ row
+        → Lent rows masks coefs counts first endRows endMasks endCoefs endCounts endFirst (set word at c) wide row n
+    word-lent c lt long enough = lent (v .both) (set word at c) (length-set word at c ∙ long) (small-set word at c (v .small) lt (omega (arith, at-few))) enough
+
+    -- for the pairs that are met, and for those that could match
+    pub rows-lent : (c : ℕ) → c < choicesMost → length word ≡ wordPlaces
+        → Lent rows masks coefs counts first endRows endMasks endCoefs endCounts endFirst (set word at c) wide size n
+        × Lent rows masks coefs counts first endRows endMasks endCoefs endCounts endFirst (set word at c) wide hints n
+    rows-lent c lt long = (word-lent c lt long (v .both .long), word-lent c lt long (v .both .hinted))
 
     pub leaves-there : m ≡ 0 → (s : ℕ) → from ≤ s → s < to → Ended masks first s
     leaves-there z s lo hi =
@@ -132,7 +142,7 @@ module _ {rows masks : List ℕ} {coefs : List ℤ} {counts first endRows endMas
         }
 
         pub visit-next : (c : ℕ) → c < choicesMost → length word ≡ wordPlaces
-            → Visiting rows masks coefs counts first endRows endMasks endCoefs endCounts endFirst wide size cells n (at + 1) (m - 1) to till root (set word at c)
+            → Visiting rows masks coefs counts first endRows endMasks endCoefs endCounts endFirst wide hints size cells n (at + 1) (m - 1) to till root (set word at c)
         visit-next c lt long = record {
           both = v .both;
           levels = omega (arith, v .levels, less);

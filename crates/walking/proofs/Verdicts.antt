@@ -98,8 +98,8 @@ word-small (suc n) (c ∷ w) k h zero = h .0
 word-small (suc n) (c ∷ w) k h (suc i) = word-small n w k (h .1) i
 
 -- ---- both tables
-module _ {rows masks : List ℕ} {coefs : List ℤ} {counts first endRows endMasks : List ℕ} {endCoefs : List ℤ} {endCounts endFirst : List ℕ} {wide size cells n : ℕ}
-    (g : Both rows masks coefs counts first endRows endMasks endCoefs endCounts endFirst wide size cells n) where
+module _ {rows masks : List ℕ} {coefs : List ℤ} {counts first endRows endMasks : List ℕ} {endCoefs : List ℤ} {endCounts endFirst : List ℕ} {wide hints size cells n : ℕ}
+    (g : Both rows masks coefs counts first endRows endMasks endCoefs endCounts endFirst wide hints size cells n) where
   abbrev test : Member → Bool
   test = passesIn rows masks coefs first endRows endMasks endCoefs endCounts endFirst n
 
@@ -119,7 +119,7 @@ module _ {rows masks : List ℕ} {coefs : List ℤ} {counts first endRows endMas
     places-small i = subst (λ (u : List ℕ). getD u i 0 < choicesMost) (sym (fill-zeros w fits)) (word-small (g .image .set .n) w (wordPlaces - length w) (is .word) i)
 
     abbrev lent-word : Lent rows masks coefs counts first endRows endMasks endCoefs endCounts endFirst (filled (replicate wordPlaces 0) 0 w) wide size n
-    lent-word = lent g (filled (replicate wordPlaces 0) 0 w) places-long places-small
+    lent-word = lent g (filled (replicate wordPlaces 0) 0 w) places-long places-small (g .long)
 
     back : take (n + 1) (filled (replicate wordPlaces 0) 0 w) ≡ w
     back = read-back w (n + 1) is-long (omega (arith, few-levels g))

@@ -24,7 +24,7 @@ ghost use Rattle.matching.specs.Seeking.{Lent};
 ghost use Rattle.reaching.specs.Reached.{Ended, Kept};
 ghost use Rattle.replies.specs.Replied.{replyFrom};
 ghost use Rattle.walking.specs.Tallied.{tickOf, tallied, Halted, replyOf};
-ghost use Rattle.walking.specs.Walk.{passesIn, treesBy, membersBy, branchOf, visitOf, rootOf, Both, Visiting};
+ghost use Rattle.walking.specs.Walk.{passesIn, treesBy, membersBy, branchOf, visitOf, rootOf, hintWords, Both, Visiting};
 
 // The check goes on, a member failed, or the allowance was used up.
 pub enum Kind {
@@ -79,6 +79,7 @@ fn tick(
     endcoefs: &[i32],
     endcounts: &[u16],
     endfirst: &[u16],
+    may: &mut [u32],
     met: &mut [u32],
     wide: u16,
     b: u32,
@@ -86,7 +87,7 @@ fn tick(
     word: [u8; 21],
     t: Tally,
 ) -> Tally
-    requires { ⌜ Lent (now rows) (now masks) (now coefs) (now counts) (now first) (now endrows) (now endmasks) (now endcoefs) (now endcounts) (now endfirst) word wide (length (now met)) n × (root < getD (now counts) 0 0) ⌝ }
+    requires { ⌜ Lent (now rows) (now masks) (now coefs) (now counts) (now first) (now endrows) (now endmasks) (now endcoefs) (now endcounts) (now endfirst) word wide (length (now met)) n × Lent (now rows) (now masks) (now coefs) (now counts) (now first) (now endrows) (now endmasks) (now endcoefs) (now endcounts) (now endfirst) word wide (length (now may)) n × (root < getD (now counts) 0 0) ⌝ }
     ensures { λ r. ⌜ r ≡ tickOf (passesIn (now (rows .entry)) (now (masks .entry)) (now (coefs .entry)) (now (first .entry)) (now (endrows .entry)) (now (endmasks .entry)) (now (endcoefs .entry)) (now (endcounts .entry)) (now (endfirst .entry)) n) b t (member root word) ⌝ }
 {
     let k = t.kind;
@@ -116,6 +117,7 @@ fn tick(
                 endcounts,
                 endfirst,
                 &word,
+                may,
                 met,
                 wide,
                 root,
@@ -153,6 +155,7 @@ fn finish(
     endcoefs: &[i32],
     endcounts: &[u16],
     endfirst: &[u16],
+    may: &mut [u32],
     met: &mut [u32],
     wide: u16,
     reached: &[u8],
@@ -164,7 +167,7 @@ fn finish(
     word: [u8; 21],
     t: Tally,
 ) -> Tally
-    requires { ⌜ Lent (now rows) (now masks) (now coefs) (now counts) (now first) (now endrows) (now endmasks) (now endcoefs) (now endcounts) (now endfirst) word wide (length (now met)) n × (root < getD (now counts) 0 0) × ((s : ℕ) → from ≤ s → s < to → Ended (now masks) (now first) s) × (to ≤ length (now reached)) × (c < choicesMost) ⌝ }
+    requires { ⌜ Lent (now rows) (now masks) (now coefs) (now counts) (now first) (now endrows) (now endmasks) (now endcoefs) (now endcounts) (now endfirst) word wide (length (now met)) n × Lent (now rows) (now masks) (now coefs) (now counts) (now first) (now endrows) (now endmasks) (now endcoefs) (now endcounts) (now endfirst) word wide (length (now may)) n × (root < getD (now counts) 0 0) × ((s : ℕ) → from ≤ s → s < to → Ended (now masks) (now first) s) × (to ≤ length (now reached)) × (c < choicesMost) ⌝ }
     ensures { λ r. ⌜ r ≡ tallied (passesIn (now (rows .entry)) (now (masks .entry)) (now (coefs .entry)) (now (first .entry)) (now (endrows .entry)) (now (endmasks .entry)) (now (endcoefs .entry)) (now (endcounts .entry)) (now (endfirst .entry)) n) b t (membersBy root word (n + 1) 0 (λ (v : List ℕ). treesBy (now (rows .entry)) (now (masks .entry)) (now (coefs .entry)) (now (first .entry)) n 0 (now (reached .entry)) from to (c ∷ v))) ⌝ }
 {
     if !ends_all(masks, first, reached, c, from, to) {
@@ -182,6 +185,7 @@ fn finish(
         endcoefs,
         endcounts,
         endfirst,
+        may,
         met,
         wide,
         b,
@@ -214,6 +218,7 @@ fn branch(
     endcoefs: &[i32],
     endcounts: &[u16],
     endfirst: &[u16],
+    may: &mut [u32],
     met: &mut [u32],
     wide: u16,
     reached: &mut [u8],
@@ -225,7 +230,7 @@ fn branch(
     word: [u8; 21],
     t: Tally,
 ) -> Tally
-    requires { ⌜ Visiting (now rows) (now masks) (now coefs) (now counts) (now first) (now endrows) (now endmasks) (now endcoefs) (now endcounts) (now endfirst) wide (length (now met)) (length (now reached)) n at left from to root word × (c < choicesMost) ⌝ }
+    requires { ⌜ Visiting (now rows) (now masks) (now coefs) (now counts) (now first) (now endrows) (now endmasks) (now endcoefs) (now endcounts) (now endfirst) wide (length (now may)) (length (now met)) (length (now reached)) n at left from to root word × (c < choicesMost) ⌝ }
     ensures { λ r. ⌜ (r ≡ tallied (passesIn (now (rows .entry)) (now (masks .entry)) (now (coefs .entry)) (now (first .entry)) (now (endrows .entry)) (now (endmasks .entry)) (now (endcoefs .entry)) (now (endcounts .entry)) (now (endfirst .entry)) n) b t (branchOf (now (rows .entry)) (now (masks .entry)) (now (coefs .entry)) (now (first .entry)) root word at left (now (reached .entry)) from to c)) × Kept (now (reached .entry)) to (now (reached .exit)) ⌝ }
 {
     let mut next = word;
@@ -243,6 +248,7 @@ fn branch(
             endcoefs,
             endcounts,
             endfirst,
+            may,
             met,
             wide,
             reached,
@@ -273,6 +279,7 @@ fn branch(
         endcoefs,
         endcounts,
         endfirst,
+        may,
         met,
         wide,
         reached,
@@ -300,6 +307,7 @@ fn visit(
     endcoefs: &[i32],
     endcounts: &[u16],
     endfirst: &[u16],
+    may: &mut [u32],
     met: &mut [u32],
     wide: u16,
     reached: &mut [u8],
@@ -310,7 +318,7 @@ fn visit(
     word: [u8; 21],
     t: Tally,
 ) -> Tally
-    requires { ⌜ Visiting (now rows) (now masks) (now coefs) (now counts) (now first) (now endrows) (now endmasks) (now endcoefs) (now endcounts) (now endfirst) wide (length (now met)) (length (now reached)) n at left from to root word ⌝ }
+    requires { ⌜ Visiting (now rows) (now masks) (now coefs) (now counts) (now first) (now endrows) (now endmasks) (now endcoefs) (now endcounts) (now endfirst) wide (length (now may)) (length (now met)) (length (now reached)) n at left from to root word ⌝ }
     ensures { λ r. ⌜ (r ≡ tallied (passesIn (now (rows .entry)) (now (masks .entry)) (now (coefs .entry)) (now (first .entry)) (now (endrows .entry)) (now (endmasks .entry)) (now (endcoefs .entry)) (now (endcounts .entry)) (now (endfirst .entry)) n) b t (visitOf (now (rows .entry)) (now (masks .entry)) (now (coefs .entry)) (now (first .entry)) root word at left (now (reached .entry)) from to)) × Kept (now (reached .entry)) to (now (reached .exit)) ⌝ }
 {
     let mut so_far = t;
@@ -333,6 +341,7 @@ fn visit(
             endcoefs,
             endcounts,
             endfirst,
+            may,
             met,
             wide,
             reached,
@@ -362,6 +371,7 @@ fn visit_root(
     endcoefs: &[i32],
     endcounts: &[u16],
     endfirst: &[u16],
+    may: &mut [u32],
     met: &mut [u32],
     wide: u16,
     reached: &mut [u8],
@@ -369,7 +379,7 @@ fn visit_root(
     root: u16,
     t: Tally,
 ) -> Tally
-    requires { ⌜ Both (now rows) (now masks) (now coefs) (now counts) (now first) (now endrows) (now endmasks) (now endcoefs) (now endcounts) (now endfirst) wide (length (now met)) (length (now reached)) n × (root < getD (now counts) 0 0) ⌝ }
+    requires { ⌜ Both (now rows) (now masks) (now coefs) (now counts) (now first) (now endrows) (now endmasks) (now endcoefs) (now endcounts) (now endfirst) wide (length (now may)) (length (now met)) (length (now reached)) n × (root < getD (now counts) 0 0) ⌝ }
     ensures { λ r. ⌜ r ≡ tallied (passesIn (now (rows .entry)) (now (masks .entry)) (now (coefs .entry)) (now (first .entry)) (now (endrows .entry)) (now (endmasks .entry)) (now (endcoefs .entry)) (now (endcounts .entry)) (now (endfirst .entry)) n) b t (rootOf (now (rows .entry)) (now (masks .entry)) (now (coefs .entry)) (now (first .entry)) n root) ⌝ }
 {
     let to = counts[0];
@@ -389,6 +399,7 @@ fn visit_root(
         endcoefs,
         endcounts,
         endfirst,
+        may,
         met,
         wide,
         reached,
@@ -419,9 +430,11 @@ pub fn walk(
     reached: &mut [u8],
     b: u32,
 ) -> Reply
-    requires { ⌜ Both (now rows) (now masks) (now coefs) (now counts) (now first) (now endrows) (now endmasks) (now endcoefs) (now endcounts) (now endfirst) wide (length (now met)) (length (now reached)) n ⌝ }
-    ensures { λ r. ⌜ ((g : Both (now (rows .entry)) (now (masks .entry)) (now (coefs .entry)) (now (counts .entry)) (now (first .entry)) (now (endrows .entry)) (now (endmasks .entry)) (now (endcoefs .entry)) (now (endcounts .entry)) (now (endfirst .entry)) wide (length (now (met .entry))) (length (now (reached .entry))) n) → r ≡ replyFrom (says (imageVerdict (g .image .set) (g .ends .set) b))) ⌝ }
+    requires { ⌜ Both (now rows) (now masks) (now coefs) (now counts) (now first) (now endrows) (now endmasks) (now endcoefs) (now endcounts) (now endfirst) wide hintWords (length (now met)) (length (now reached)) n ⌝ }
+    ensures { λ r. ⌜ ((g : Both (now (rows .entry)) (now (masks .entry)) (now (coefs .entry)) (now (counts .entry)) (now (first .entry)) (now (endrows .entry)) (now (endmasks .entry)) (now (endcoefs .entry)) (now (endcounts .entry)) (now (endfirst .entry)) wide hintWords (length (now (met .entry))) (length (now (reached .entry))) n) → r ≡ replyFrom (says (imageVerdict (g .image .set) (g .ends .set) b))) ⌝ }
 {
+    // The marks of the pairs that could match: words for 1,024 image states, four to each.
+    let mut may = [0u32; 4096];
     let roots = counts[0];
     let mut so_far = Tally {
         kind: Kind::Going,
@@ -443,6 +456,7 @@ pub fn walk(
             endcoefs,
             endcounts,
             endfirst,
+            &mut may,
             met,
             wide,
             reached,
