@@ -51,7 +51,7 @@ module _ (r₁ r₂ : code.Bounds) (room endroom : Room) (e₁ : boundsOf r₁ �
   pub to-decide : {A₀ B : Table} {cur next link heads : List ℕ} {E₀ : Table} {met reached : List ℕ} → Checking A₀ B cur next link heads E₀ met reached room endroom → LentOn A nMost room
       → Deciding c (f .count) (f .form) (f .endform) A B cur next link heads E met reached room
   to-decide k one =
-      may-decide (files-whole (boundsOf r₁) (boundsOf r₂) s c e (h .files) (h .is)) start-held end-held (h .form) (h .count) (h .endform) (k .lists) one (k .two) (k .narrow) (k .marks) (k .cells)
+      may-decide (files-whole (boundsOf r₁) (boundsOf r₂) s c e (h .files) (h .is)) start-held end-held (h .form) (h .count) (h .endform) (k .lists) one (k .two) (k .narrow) (k .small) (k .marks) (k .cells)
 
   pub is-checked : (most : ℕ) → decided (boundsFrom room) (ready (setOn (f .form) A) (gatesFrom (f .form .n) c 0 (f .count)) (setOn (f .endform) E)) most
       ≡ checkedBy (boundsFrom room) (boundsFrom endroom) s c e most

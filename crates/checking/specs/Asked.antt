@@ -1,4 +1,4 @@
--- What the whole check asks of its slices: room for the start set, for the gates, and for an end set of at most 128 states.
+-- What the whole check asks of its slices: room for the start set, for the gates, of at most 1,024 states, and for an end set of at most 128.
 use mathlib.Core.List.{List}
 use Prim.Native.Nat.{ℕ, _*_, _≤_}
 use lib.ListN.{length}
@@ -18,5 +18,6 @@ pub record Checking (A B : Table) (cur next link heads : List ℕ) (E : Table) (
   pub one : LentOn A nMost room
   pub two : LentOn B nMost room
   pub narrow : endroom .states ≤ 128
+  pub small : room .states ≤ 1024
   pub marks : room .states * 4 ≤ length met
   pub cells : room .states ≤ length reached

@@ -43,9 +43,9 @@ module _ {c : List ℕ} {J : Ready} {room endroom : Room} {A E : Table} {form en
       record { wide = l .wide; levels = omega (arith, l .levels, n-is); begins = l .begins; few = l .few }
 
   pub may-decide : {B : Table} {cur next link heads met reached : List ℕ} → Lists cur next link heads (room .states) 0 → LentOn A nMost room → LentOn B nMost room
-      → endroom .states ≤ 128 → room .states * 4 ≤ length met → room .states ≤ length reached
+      → endroom .states ≤ 128 → room .states ≤ 1024 → room .states * 4 ≤ length met → room .states ≤ length reached
       → Deciding c count form endform A B cur next link heads E met reached room
-  may-decide {B} lists one two narrow marks cells = record {
+  may-decide {B} lists one two narrow small marks cells = record {
     readable = rw (n-is, isCount) (sound .readable);
     fit = rw (gates-are, n-is) (circuit-fits (J .start .n) c (J .gates) (w .circuit));
     start = rw isForm (hA .stands);
@@ -56,6 +56,7 @@ module _ {c : List ℕ} {J : Ready} {room endroom : Room} {A E : Table} {form en
     end = rw isEnd (hE .stands);
     qubits = ap (λ (f : Form). f .n) isEnd ∙ w .qubits ∙ sym n-is;
     narrow = narrow;
+    small = small;
     marks = marks;
     cells = cells;
   }

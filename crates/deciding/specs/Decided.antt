@@ -31,7 +31,7 @@ unfoldable pub checkedBy : Bounds → Bounds → List ℕ → List ℕ → List 
 checkedBy b eb s c e most = replyOf (answer most) (onGood (filesJudged b eb s c e) (gatesJudged b))
 
 -- what the gates and the walk ask: the start set in table A, room in table B and in the lists, the end set in table E with as many qubits, at most
--- 128 end states to four words of marks each, and a cell for each state that an image may have
+-- 128 end states to four words of marks each, at most 1,024 states of an image, and a cell for each of them
 pub record Deciding (circuit : List ℕ) (count : ℕ) (form endform : Form) (A B : Table) (cur next link heads : List ℕ) (E : Table) (met reached : List ℕ) (room : Room) : Type 0 where
   pub readable : Readable (form .n) circuit 0 count
   pub fit : AllFit (form .n) (gatesFrom (form .n) circuit 0 count)
@@ -43,5 +43,6 @@ pub record Deciding (circuit : List ℕ) (count : ℕ) (form endform : Form) (A 
   pub end : StandsOn E endform bounds
   pub qubits : endform .n ≡ form .n
   pub narrow : bounds .states ≤ 128
+  pub small : room .states ≤ 1024
   pub marks : room .states * 4 ≤ length met
   pub cells : room .states ≤ length reached
