@@ -75,6 +75,38 @@ uint32_t zhargutai_one_gate(const uint8_t *set, size_t set_len,
                             uint8_t *output, size_t output_len,
                             uint8_t *reply, size_t reply_len);
 
+/* Checks a circuit: is every state of the start set, carried through the circuit's gates, a state of the end set?
+ *
+ *   start      a set file (source 1 of a refusal)
+ *   circuit    up to 4,096 gates of ZHARGUTAI_GATE_SIZE bytes each (source 2); a length of 0 is a circuit too
+ *   end        a set file of the same number of qubits, at most 128 states (source 3)
+ *   allowance  the most members of the start set that are examined, 0 to 4,294,967,295
+ *   reply      lent, at least ZHARGUTAI_REPLY_SIZE bytes
+ *
+ * The members are examined in their order: by root, then by word. Each counts, also where two give the same state.
+ *
+ * Returns the number of the refusal, 0 if nothing was refused. The reply says the same and more.
+ *
+ * Nothing refused: the kind is one of
+ *
+ *   ZHARGUTAI_HOLDS      all members pass; the count is their number, 0 if there is none
+ *   ZHARGUTAI_FAILS      a member does not pass; the count is the place of the first such, from 1, with its root and word
+ *   ZHARGUTAI_UNDECIDED  as many as allowed passed, and there are more; the count is the allowance
+ *
+ * Refused: the kind is ZHARGUTAI_REFUSED. The numbers are 1 to 10 for the start set; 11 and 12 for the circuit, whose qubits
+ * are held to the start set; 1 to 10 for the end set; 13 (source 0) for an end set of another number of qubits; then gate by
+ * gate 15, 14 and 16 as above, with source 2. All of these come before the first member, whatever the allowance. The place is
+ * the gate, from 1, for 12, 14, 15 and 16.
+ *
+ * A reply buffer under ZHARGUTAI_REPLY_SIZE bytes: 17 is returned and nothing is written. There is no other 17: the work
+ * buffers are the entry's own, on the caller's stack (tests/stack.sh measures them).
+ */
+uint32_t zhargutai_check(const uint8_t *start, size_t start_len,
+                         const uint8_t *circuit, size_t circuit_len,
+                         const uint8_t *end, size_t end_len,
+                         uint32_t allowance,
+                         uint8_t *reply, size_t reply_len);
+
 #ifdef __cplusplus
 }
 #endif
