@@ -93,8 +93,7 @@ module _ (arows : List ℕ) (amasks : List ℕ) (acoefs : List ℤ) (acounts : L
       let e3 = both (leb countsSize (length endcounts)) _ (e2 .1) in
       let m0 = both (leb marksSize (length met)) _ (g3 .1) in
       let m1 = both (leb marksSize (length stack)) _ (m0 .1) in
-      let m2 = both (leb marksSize (length kept)) _ (m1 .1) in
-      (
+      let m2 = both (leb marksSize (length kept)) _ (m1 .1) in (
         record { rowsLong = leb-true rowsSize (length arows) (a0 .0); masksLong = leb-true masksSize (length amasks) (a1 .0); coefsLong = leb-true coefsSize (length acoefs) (a2 .0); countsLong = leb-true countsSize (length acounts) (a3 .0); firstLong = leb-true firstSize (length afirst) (a3 .1) },
         record { rowsLong = leb-true rowsSize (length brows) (b0 .0); masksLong = leb-true masksSize (length bmasks) (b1 .0); coefsLong = leb-true coefsSize (length bcoefs) (b2 .0); countsLong = leb-true countsSize (length bcounts) (b3 .0); firstLong = leb-true firstSize (length bfirst) (b3 .1) },
         record { curLong = leb-true keysSize (length cur) (l0 .0); nextLong = leb-true keysSize (length next) (l1 .0); linkLong = leb-true keysSize (length link) (l2 .0); headsLong = leb-true headsSize (length heads) (l2 .1) },

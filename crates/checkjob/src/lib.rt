@@ -58,10 +58,28 @@ pub fn check(
     ensures { λ _. ⌜ checkLent (now (arows .exit)) (now (amasks .exit)) (now (acoefs .exit)) (now (acounts .exit)) (now (afirst .exit)) (now (brows .exit)) (now (bmasks .exit)) (now (bcoefs .exit)) (now (bcounts .exit)) (now (bfirst .exit)) (now (cur .exit)) (now (next .exit)) (now (link .exit)) (now (heads .exit)) (now (endrows .exit)) (now (endmasks .exit)) (now (endcoefs .exit)) (now (endcounts .exit)) (now (endfirst .exit)) (now (met .exit)) (now (stack .exit)) (now (kept .exit)) (now (hints .exit))
         ≡ checkWork checkSizes (checkLent (now (arows .entry)) (now (amasks .entry)) (now (acoefs .entry)) (now (acounts .entry)) (now (afirst .entry)) (now (brows .entry)) (now (bmasks .entry)) (now (bcoefs .entry)) (now (bcounts .entry)) (now (bfirst .entry)) (now (cur .entry)) (now (next .entry)) (now (link .entry)) (now (heads .entry)) (now (endrows .entry)) (now (endmasks .entry)) (now (endcoefs .entry)) (now (endcounts .entry)) (now (endfirst .entry)) (now (met .entry)) (now (stack .entry)) (now (kept .entry)) (now (hints .entry))) ⌝ }
 {
-    let a = table_long(arows.len(), amasks.len(), acoefs.len(), acounts.len(), afirst.len());
-    let b = table_long(brows.len(), bmasks.len(), bcoefs.len(), bcounts.len(), bfirst.len());
+    let a = table_long(
+        arows.len(),
+        amasks.len(),
+        acoefs.len(),
+        acounts.len(),
+        afirst.len(),
+    );
+    let b = table_long(
+        brows.len(),
+        bmasks.len(),
+        bcoefs.len(),
+        bcounts.len(),
+        bfirst.len(),
+    );
     let keys = lists_long(cur.len(), next.len(), link.len(), heads.len());
-    let ends = table_long(endrows.len(), endmasks.len(), endcoefs.len(), endcounts.len(), endfirst.len());
+    let ends = table_long(
+        endrows.len(),
+        endmasks.len(),
+        endcoefs.len(),
+        endcounts.len(),
+        endfirst.len(),
+    );
     let marks = marks_long(met.len(), stack.len(), kept.len(), hints.len());
     if !(a & (b & (keys & (ends & marks)))) {
         return refused(Refusal {

@@ -1,0 +1,4 @@
+pub mod Found
+pub mod Planes
+pub mod Related
+pub mod Roots
