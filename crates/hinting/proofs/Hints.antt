@@ -43,12 +43,12 @@ row-taken {X} f masks first e d x h = go (transitionRow masks first e d) refl h
         let hit = scan-hits masks d (getD first e 0) (getD first (e + 1) 0 - getD first e 0) j g in
         record { row = j; after = hit .after; before = omega (arith, hit .after, hit .before); is = cc }
 
-leaf-taken : (rows masks : List ℕ) (coefs : List ℤ) (first : List ℕ) (e d : ℕ) (x : Leaf) → choose d (endsIn rows masks coefs first e) ≡ some x → Row (leafOf rows coefs) first e x
+pub leaf-taken : (rows masks : List ℕ) (coefs : List ℤ) (first : List ℕ) (e d : ℕ) (x : Leaf) → choose d (endsIn rows masks coefs first e) ≡ some x → Row (leafOf rows coefs) first e x
 unfolding leafAlts
 leaf-taken rows masks coefs first e d x h =
     row-taken (leafOf rows coefs) masks first e d x (sym (choose-rows (leafOf rows coefs) masks d (getD first e 0) (getD first (e + 1) 0 - getD first e 0)) ∙ h)
 
-kids-taken : (rows masks first : List ℕ) (e d : ℕ) (x : ℕ × ℕ) → moveIn rows masks first d e ≡ some x → Row (pairRow rows) first e x
+pub kids-taken : (rows masks first : List ℕ) (e d : ℕ) (x : ℕ × ℕ) → moveIn rows masks first d e ≡ some x → Row (pairRow rows) first e x
 unfolding altsFrom
 kids-taken rows masks first e d x h =
     row-taken (pairRow rows) masks first e d x (sym (choose-rows (pairRow rows) masks d (getD first e 0) (getD first (e + 1) 0 - getD first e 0)) ∙ h)

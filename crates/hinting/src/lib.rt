@@ -22,7 +22,7 @@ ghost use Rattle.hinting.specs.Hint.{bothMarked, EndFits, KidsMay, EndRo
 const ROW_WIDTH: usize = 3;
 
 // Some row of the end set from row `from` up to below row `to` has a leaf equal to that of row i.
-fn end_fits(
+pub fn end_fits(
     rows: &[u16],
     coefs: &[i32],
     endrows: &[u16],
@@ -57,7 +57,7 @@ fn kids_marked(rows: &[u16], endrows: &[u16], may: &[u32], wide: u16, i: u16, j:
 }
 
 // Some row of the end set from row `from` up to below row `to` has children that are marked with those of row i.
-fn kids_may(
+pub fn kids_may(
     rows: &[u16],
     endrows: &[u16],
     may: &[u32],

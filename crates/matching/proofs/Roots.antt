@@ -26,7 +26,7 @@ use Rattle.matching.proofs.Words.{any-ext, any-none, word-found, word-i
 abbrev pub rootLevel : List ℕ → List ℕ → Level
 rootLevel counts endCounts = record { from = 0; to = getD counts 0 0; start = 0; stop = getD endCounts 0 0 }
 
-root-level : (counts endCounts : List ℕ) → IsLevel counts endCounts 0 (rootLevel counts endCounts)
+pub root-level : (counts endCounts : List ℕ) → IsLevel counts endCounts 0 (rootLevel counts endCounts)
 root-level counts endCounts = record {
   from = sym (start-zero counts);
   to = omega (arith, start-zero counts, start-next counts 0);

@@ -25,7 +25,7 @@ ghost use Rattle.matching.specs.Levels.{IsLevel, NextFits};
 ghost use Rattle.matching.specs.Seeking.{sought, tried, Sound, Hints, Lent, Seeking};
 
 // The next level's states.
-fn next_level(counts: &[u16], endcounts: &[u16], at: u8, level: Level) -> Level
+pub fn next_level(counts: &[u16], endcounts: &[u16], at: u8, level: Level) -> Level
     requires { ⌜ IsLevel (now counts) (now endcounts) at level × NextFits (now counts) (now endcounts) at ⌝ }
     ensures { λ r. ⌜ IsLevel (now (counts .entry)) (now (endcounts .entry)) (at + 1) r ⌝ }
 {
