@@ -20,6 +20,11 @@ abbrev μ-loop : tie.MeasureT-loop
 loop-holds : tie.Need-loop-holds Inv-loop μ-loop
 loop-holds c = (omega arith, λ q lo hi. absurd (omega arith))
 
+returns-2 : tie.Need-returns-2 Inv-loop μ-loop
+returns-2 c =
+    let l = c .before .loop in
+    λ w. absurd (l .inv .1 (w .row) (w .after) (omega (arith, c .loop-test .left, w .before)) (w .fits))
+
 row-could-requires : tie.Need-row-could-requires Inv-loop μ-loop
 row-could-requires c κs =
     let l = c .before .loop in
@@ -37,11 +42,6 @@ loop-again c =
     let l = k .before .before in
     let a = l .before .before .before .before .before .before .before .before .before .before .before .before .args in
     (omega arith, none-more (λ (q : ℕ). RowFits (a .last) (now (a .rows)) (now (a .coefs)) (now (a .endrows)) (now (a .endcoefs)) (a .wide) (now (a .may)) q _ _) _ (l .loop .i) (l .loop .inv .1) (λ f. false≢true (sym (c .if1 .left) ∙ k .row-could .ensures f)))
-
-returns-2 : tie.Need-returns-2 Inv-loop μ-loop
-returns-2 c =
-    let l = c .before .loop in
-    λ w. absurd (l .inv .1 (w .row) (w .after) (omega (arith, c .loop-test .left, w .before)) (w .fits))
 
 pub could-spec : {M : Type 1} → statement M
 could-spec =
