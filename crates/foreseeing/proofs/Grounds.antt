@@ -1,19 +1,18 @@
 -- What marking a level asks stands in the tables, and a level's marks with those below it are sound for every word. Assumes nothing.
-use mathlib.Core.Path.{_≡_, refl, sym, ap, _∙_}
+use mathlib.Core.Path.{_≡_}
 use mathlib.Core.Bool.{true, false}
 use mathlib.Core.List.{List}
-use Prim.Native.Nat.{ℕ, zero, suc, _+_, _-_, _*_, _<_, _≤_}
+use Prim.Native.Nat.{ℕ, suc, _+_, _*_, _<_, _≤_}
 use native.Mathlib.Omega.{arith}
 use lib.IntN.{ℤ}
-use lib.ListN.{length, getD, replicate, length-replicate, getD-replicate}
+use lib.ListN.{getD, replicate, length-replicate, getD-replicate}
 use Rattle.automata.specs.Tree.{Automaton}
 use Rattle.lookup.specs.Alts.{tableAutomaton}
 use Rattle.meeting.specs.declared.Level.{Level}
-use Rattle.stepping.specs.Step.{Stage}
 use Rattle.hinting.specs.Hint.{Ground, Hinted}
-use Rattle.matching.specs.Levels.{startOf, IsLevel, NextFits}
-use Rattle.matching.specs.Seeking.{Sound, Lent, Seeking}
-use Rattle.matching.proofs.Turns.{next-fits, long-level, leaf-stage, levels-few, again, stage}
+use Rattle.matching.specs.Levels.{IsLevel, NextFits}
+use Rattle.matching.specs.Seeking.{Seeking}
+use Rattle.matching.proofs.Turns.{next-fits, long-level, leaf-stage, levels-few, stage}
 use Rattle.matching.proofs.Sounding.{ground-last, ground-inner, sound-last, sound-more}
 use Rattle.matching.proofs.Roots.{rootLevel, root-level}
 use Rattle.foreseeing.specs.Foresee.{Both, Foreseeing, IsWord, Foreseen}

@@ -1,12 +1,12 @@
 -- The image states so far are marked. Assumes nothing.
-use mathlib.Core.Path.{_≡_, refl, _∙_}
-use Prim.Native.Nat.{ℕ, _+_, _-_, _<_, _≤_}
+use mathlib.Core.Path.{_≡_, refl}
+use Prim.Native.Nat.{ℕ, _-_, _≤_}
 use native.Mathlib.Omega.{arith}
 use denote.Ref.{now}
 use lib.ListN.{length}
 use borrow.Author.Needs.{needs}
 use Rattle.hinting.specs.Hint.{Hinted}
-use Rattle.hinting.proofs.Hints.{soFar, level-none, level-more, level-all, row-again}
+use Rattle.hinting.proofs.Hints.{level-none, level-more, level-all, row-again}
 use Rattle.foreseeing.proofs.foresee_level.Statement.{statement}
 use Rattle.foreseeing.proofs.foresee_level.Tie as tie
 

@@ -1,6 +1,5 @@
 -- On the last level the leaves are compared, else the children's marks are read. Assumes nothing.
 use denote.Ref.{now}
-use borrow.Author.Needs.{needs}
 use Rattle.foreseeing.proofs.Fits.{as-end, as-kids}
 use Rattle.foreseeing.proofs.row_could.Statement.{statement}
 use Rattle.foreseeing.proofs.row_could.Tie as tie
