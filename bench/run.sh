@@ -1,12 +1,20 @@
 #!/usr/bin/env bash
-# Builds the library and the benchmark for release, and runs the benchmark. bench/README.md says what is measured.
+# Builds the library and the benchmarks for release, and runs both benchmarks. bench/README.md says what is measured.
 # usage: bench/run.sh [ARCHIVE]     without ARCHIVE the library is proved and built first; the archive's name is libNAME.a
 set -eu
 cd "$(dirname "$0")/.."
+export PYTHONDONTWRITEBYTECODE=1
 archive=${1:-}
 if [ -z "$archive" ]; then
   archive=target/staticlib/librelease.a
   rm -f "$archive"
   rt staticlib release
 fi
-ARCHIVE=$(realpath "$archive") cargo run --release --quiet --offline --manifest-path bench/Cargo.toml --target-dir target/bench
+ARCHIVE=$(realpath "$archive") cargo build --release --quiet --offline --manifest-path bench/Cargo.toml --target-dir target/bench
+out=$(mktemp -d)
+trap 'rm -rf "$out"' EXIT
+python3 tests/reference/families.py write "$out/families" 8 12 16 20
+python3 tests/reference/families.py random "$out/random" 500
+
+target/bench/release/bench
+target/bench/release/check "$out/families" "$out/random"

@@ -1,51 +1,13 @@
 //! Times a chain of gates by the proved library and by the same construction in Rust, and checks that both give the same bytes after every gate.
-mod gates;
-mod sets;
-
-use gates::{build, one_gate_rust, read_gate, Gate};
-use sets::{read_set, write_set, Inner, Leaf, Set};
+use bench::gates::{build, one_gate_rust, read_gate, Gate};
+use bench::library;
+use bench::sets::{read_set, write_set, Inner, Leaf, Set};
 use std::time::{Duration, Instant};
 
 const QUBITS: usize = 9;
 const GATES: usize = 4096;
 const ROUNDS: usize = 5;
 const OUTPUT_SIZE: usize = 49248;
-const REPLY_SIZE: usize = 64;
-
-extern "C" {
-    fn zhargutai_one_gate(
-        set: *const u8,
-        set_len: usize,
-        circuit: *const u8,
-        circuit_len: usize,
-        output: *mut u8,
-        output_len: usize,
-        reply: *mut u8,
-        reply_len: usize,
-    ) -> u32;
-}
-
-/// The library's job: the length of the new set at the front of output, or the number of the refusal.
-fn one_gate_library(set: &[u8], circuit: &[u8], output: &mut [u8]) -> Result<usize, u32> {
-    let mut reply = [0; REPLY_SIZE];
-    // SAFETY: each pointer comes with its own slice's length, and the two lent slices are borrowed for themselves alone.
-    let number = unsafe {
-        zhargutai_one_gate(
-            set.as_ptr(),
-            set.len(),
-            circuit.as_ptr(),
-            circuit.len(),
-            output.as_mut_ptr(),
-            output.len(),
-            reply.as_mut_ptr(),
-            reply.len(),
-        )
-    };
-    match number {
-        0 => Ok(u32::from_le_bytes(reply[8..12].try_into().unwrap()) as usize),
-        _ => Err(number),
-    }
-}
 
 /// A full binary tree of states: 2^(i-1) on level i. Each inner state goes to its own two children by choice 0, and to the same two by choice 1,
 /// so that no gate of the chain makes a second copy of a state. Every leaf state has an amplitude of its own.
@@ -96,7 +58,7 @@ fn compared(start: &[u8], chain: &[[u8; 6]]) -> Vec<u8> {
     let mut output = vec![0; OUTPUT_SIZE];
     let mut set = start.to_vec();
     for (i, circuit) in chain.iter().enumerate() {
-        let length = one_gate_library(&set, circuit, &mut output)
+        let length = library::one_gate(&set, circuit, &mut output)
             .unwrap_or_else(|number| panic!("gate {}: the library refuses with {number}", i + 1));
         let new = one_gate_rust(&set, circuit)
             .unwrap_or_else(|refusal| panic!("gate {}: Rust refuses: {refusal:?}", i + 1));
@@ -121,7 +83,7 @@ fn by_library(start: &[u8], chain: &[[u8; 6]], last: &[u8]) -> Duration {
     let mut length = start.len();
     let begin = Instant::now();
     for circuit in chain {
-        length = one_gate_library(&set[..length], circuit, &mut output).unwrap();
+        length = library::one_gate(&set[..length], circuit, &mut output).unwrap();
         std::mem::swap(&mut set, &mut output);
     }
     let time = begin.elapsed();

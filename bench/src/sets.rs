@@ -1,6 +1,7 @@
 //! Set files in the usual Rust way: reading by the rules 1 to 10 into vectors, and writing.
 
 pub const MOST_STATES: usize = 1024;
+pub const MOST_END_STATES: usize = 128;
 pub const MOST_INNER: usize = 2048;
 pub const MOST_LEAVES: usize = 1024;
 pub const RANGE: i64 = 1 << 30;
@@ -64,6 +65,15 @@ fn clash(records: impl Iterator<Item = (u16, u32)>) -> bool {
 
 /// The set, or the number of its refusal: the smallest that applies to the whole file.
 pub fn read_set(b: &[u8]) -> Result<Set, u8> {
+    read_set_of(b, MOST_STATES)
+}
+
+/// The same for an end set.
+pub fn read_end_set(b: &[u8]) -> Result<Set, u8> {
+    read_set_of(b, MOST_END_STATES)
+}
+
+fn read_set_of(b: &[u8], most_states: usize) -> Result<Set, u8> {
     if b.len() < 12 || &b[..2] != b"HD" {
         return Err(1);
     }
@@ -77,7 +87,7 @@ pub fn read_set(b: &[u8]) -> Result<Set, u8> {
     let states = u16_at(b, 6) as usize;
     let inner_count = u16_at(b, 8) as usize;
     let leaf_count = u16_at(b, 10) as usize;
-    if states > MOST_STATES || inner_count > MOST_INNER || leaf_count > MOST_LEAVES {
+    if states > most_states || inner_count > MOST_INNER || leaf_count > MOST_LEAVES {
         return Err(4);
     }
     let first_inner = 12 + 4 * (n + 1);

@@ -23,7 +23,7 @@ abbrev Sized : tables.Table → Type 0
 Sized T = Table (T .rows) (T .masks) (T .coefs) (T .counts) (T .first)
 
 sized : (A B : tables.Table) (cur next link heads : List ℕ) (E : tables.Table) (met stack kept hints : List ℕ) → Sized A → Sized B → Lists cur next link heads → Sized E → Marks met stack kept hints
-    → Checking A B cur next link heads E met hints (roomOf 1024) (roomOf 128)
+    → Checking A B cur next link heads E met stack kept hints (roomOf 1024) (roomOf 128)
 sized A B cur next link heads E met stack kept hints a b l e m = record {
   start =
       record {
@@ -65,12 +65,17 @@ sized A B cur next link heads E met stack kept hints a b l e m = record {
       };
   narrow = omega arith;
   small = omega arith;
-  marks = omega (arith, m .metLong);
-  cells = omega (arith, m .hintsLong);
+  rows =
+      record {
+        metLong = omega (arith, m .metLong);
+        stackLong = omega (arith, m .stackLong);
+        keptLong = omega (arith, m .keptLong);
+        hintsLong = omega (arith, m .hintsLong);
+      };
 }
 
 pub may-check : (A B : tables.Table) (cur next link heads : List ℕ) (E : tables.Table) (met stack kept hints : List ℕ) {room endroom : Room} → room ≡ roomOf 1024 → endroom ≡ roomOf 128
-    → Sized A → Sized B → Lists cur next link heads → Sized E → Marks met stack kept hints → Checking A B cur next link heads E met hints room endroom
+    → Sized A → Sized B → Lists cur next link heads → Sized E → Marks met stack kept hints → Checking A B cur next link heads E met stack kept hints room endroom
 may-check A B cur next link heads E met stack kept hints r q a b l e m = rw (r, q) (sized A B cur next link heads E met stack kept hints a b l e m)
 
 pub is-answer : (s c e : List ℕ) (most : ℕ) (room endroom : Room) {r : Reply} → room ≡ roomOf 1024 → endroom ≡ roomOf 128

@@ -92,6 +92,8 @@ pub fn answer(
         endcounts,
         endfirst,
         met,
+        stack,
+        kept,
         hints,
         room_for(STATES),
         room_for(END_STATES),

@@ -48,10 +48,10 @@ module _ (r₁ r₂ : code.Bounds) (room endroom : Room) (e₁ : boundsOf r₁ �
   end-held : HoldingOn E (h .files .end) (boundsFrom endroom)
   end-held = subst (λ (b : Bounds). HoldingOn E (h .files .end) b) e₂ (kept .1)
 
-  pub to-decide : {A₀ B : Table} {cur next link heads : List ℕ} {E₀ : Table} {met reached : List ℕ} → Checking A₀ B cur next link heads E₀ met reached room endroom → LentOn A nMost room
-      → Deciding c (f .count) (f .form) (f .endform) A B cur next link heads E met reached room
+  pub to-decide : {A₀ B : Table} {cur next link heads : List ℕ} {E₀ : Table} {met stack kept hints : List ℕ} → Checking A₀ B cur next link heads E₀ met stack kept hints room endroom → LentOn A nMost room
+      → Deciding c (f .count) (f .form) (f .endform) A B cur next link heads E met stack kept hints room
   to-decide k one =
-      may-decide (files-whole (boundsOf r₁) (boundsOf r₂) s c e (h .files) (h .is)) start-held end-held (h .form) (h .count) (h .endform) (k .lists) one (k .two) (k .narrow) (k .small) (k .marks) (k .cells)
+      may-decide (files-whole (boundsOf r₁) (boundsOf r₂) s c e (h .files) (h .is)) start-held end-held (h .form) (h .count) (h .endform) (k .lists) one (k .two) (k .narrow) (k .small) (k .rows)
 
   pub is-checked : (most : ℕ) → decided (boundsFrom room) (ready (setOn (f .form) A) (gatesFrom (f .form .n) c 0 (f .count)) (setOn (f .endform) E)) most
       ≡ checkedBy (boundsFrom room) (boundsFrom endroom) s c e most

@@ -51,12 +51,14 @@ pub fn check_files(
     endcounts: &mut [u16],
     endfirst: &mut [u16],
     met: &mut [u32],
+    stack: &mut [u32],
+    kept: &mut [u32],
     hints: &mut [u8],
     room: Room,
     endroom: Room,
 ) -> Reply
     requires { ⌜ Checking (tableOf (now arows) (now amasks) (now acoefs) (now acounts) (now afirst)) (tableOf (now brows) (now bmasks) (now bcoefs) (now bcounts) (now bfirst)) (now cur) (now next) (now link) (now heads)
-        (tableOf (now endrows) (now endmasks) (now endcoefs) (now endcounts) (now endfirst)) (now met) (now hints) room endroom ⌝ }
+        (tableOf (now endrows) (now endmasks) (now endcoefs) (now endcounts) (now endfirst)) (now met) (now stack) (now kept) (now hints) room endroom ⌝ }
     ensures { λ r. ⌜ r ≡ replyFrom (checkedBy (boundsFrom room) (boundsFrom endroom) (now (start .entry)) (now (circuit .entry)) (now (end .entry)) most) ⌝ }
 {
     match prepare(
@@ -102,6 +104,8 @@ pub fn check_files(
             endcounts,
             endfirst,
             met,
+            stack,
+            kept,
             hints,
             most,
             room,

@@ -24,7 +24,7 @@ use Rattle.carrying.specs.Carried.{Readable, gatesFrom}
 use Rattle.carrying.proofs.Circuits.{Sound, circuit-sound}
 use Rattle.preparing.specs.Prepared.{filesJudged}
 use Rattle.preparing.proofs.Readied.{Whole}
-use Rattle.deciding.specs.Decided.{gatesJudged, decided, checkedBy, Deciding}
+use Rattle.deciding.specs.Decided.{gatesJudged, decided, checkedBy, LastRows, Deciding}
 
 module _ {c : List ℕ} {J : Ready} {room endroom : Room} {A E : Table} {form endform : Form} {count : ℕ} (w : Whole c J) (hA : HoldingOn A (J .start) (boundsFrom room))
     (hE : HoldingOn E (J .end) (boundsFrom endroom)) (isForm : form ≡ formOf (J .start)) (isCount : count ≡ length (J .gates)) (isEnd : endform ≡ formOf (J .end)) where
@@ -42,10 +42,10 @@ module _ {c : List ℕ} {J : Ready} {room endroom : Room} {A E : Table} {form en
       let few : J .start .n ≤ nMost = subst (λ (Q : QSet). Q .n ≤ nMost) (hA .is) (hA .stands .formed .nFew) in
       record { wide = l .wide; levels = omega (arith, l .levels, n-is); begins = l .begins; few = l .few }
 
-  pub may-decide : {B : Table} {cur next link heads met reached : List ℕ} → Lists cur next link heads (room .states) 0 → LentOn A nMost room → LentOn B nMost room
-      → endroom .states ≤ 128 → room .states ≤ 1024 → room .states * 4 ≤ length met → room .states ≤ length reached
-      → Deciding c count form endform A B cur next link heads E met reached room
-  may-decide {B} lists one two narrow small marks cells = record {
+  pub may-decide : {B : Table} {cur next link heads met stack kept hints : List ℕ} → Lists cur next link heads (room .states) 0 → LentOn A nMost room → LentOn B nMost room
+      → endroom .states ≤ 128 → room .states ≤ 1024 → LastRows met stack kept hints
+      → Deciding c count form endform A B cur next link heads E met stack kept hints room
+  may-decide {B} lists one two narrow small rows = record {
     readable = rw (n-is, isCount) (sound .readable);
     fit = rw (gates-are, n-is) (circuit-fits (J .start .n) c (J .gates) (w .circuit));
     start = rw isForm (hA .stands);
@@ -57,8 +57,7 @@ module _ {c : List ℕ} {J : Ready} {room endroom : Room} {A E : Table} {form en
     qubits = ap (λ (f : Form). f .n) isEnd ∙ w .qubits ∙ sym n-is;
     narrow = narrow;
     small = small;
-    marks = marks;
-    cells = cells;
+    rows = rows;
   }
 
   pub files-are : ready (setOn form A) (gatesFrom (form .n) c 0 count) (setOn endform E) ≡ J

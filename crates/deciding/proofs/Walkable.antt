@@ -16,7 +16,7 @@ use Rattle.matching.specs.Levels.{startOf}
 use Rattle.matching.specs.Seeking.{Held}
 use Rattle.matching.proofs.LevelLaws.{start-most}
 use Rattle.matching.proofs.Grounds.{start-is}
-use Rattle.walking.specs.Walk.{hintWords, Both}
+use Rattle.striding.specs.Lodged.{Lodged}
 use Rattle.deciding.specs.Decided.{Deciding}
 
 module _ {rows masks : List ℕ} {coefs : List ℤ} {counts first : List ℕ} {form : Form} {b : Bounds} (s : Stands rows masks coefs counts first form b) where
@@ -49,17 +49,19 @@ held-states {counts = counts} {n = n} h =
     omega (arith, start-is h (suc n) (omega arith), start-most (h .set .counts) (suc n), h .formed .states)
 
 -- what the walk asks, of an image that stands in a table after the gates
-abbrev pub walkable : {circuit : List ℕ} {count : ℕ} {form endform : Form} {A B : Table} {cur next link heads : List ℕ} {E : Table} {met reached : List ℕ} {room : Room}
-    → Deciding circuit count form endform A B cur next link heads E met reached room → {T : Table} {f : Form} → StandsOn T f (boundsFrom room) → f .n ≡ form .n
-    → Both (T .rows) (T .masks) (T .coefs) (T .counts) (T .first) (E .rows) (E .masks) (E .coefs) (E .counts) (E .first) 4 hintWords (length met) (length reached) (form .n)
+abbrev pub walkable : {circuit : List ℕ} {count : ℕ} {form endform : Form} {A B : Table} {cur next link heads : List ℕ} {E : Table} {met stack kept hints : List ℕ} {room : Room}
+    → Deciding circuit count form endform A B cur next link heads E met stack kept hints room → {T : Table} {f : Form} → StandsOn T f (boundsFrom room) → f .n ≡ form .n
+    → Lodged (T .rows) (T .masks) (T .coefs) (T .counts) (T .first) (E .rows) (E .masks) (E .coefs) (E .counts) (E .first) (length met) (length stack) (length kept) (length hints) (form .n)
 walkable {form = form} d s e =
     let i = held s (omega (arith, d .lists .small)) (form .n) (sym e) in
     let j = held (d .end) (omega (arith, d .narrow)) (form .n) (sym (d .qubits)) in
     record {
       image = i;
       ends = j;
-      hinted = omega (arith, held-states i, d .small);
-      long = omega (arith, held-states i, d .marks);
+      small = omega (arith, held-states i, d .small);
       narrow = omega (arith, held-states j, d .narrow);
-      celled = omega (arith, held-states i, d .cells);
+      marks = d .rows .metLong;
+      planes = d .rows .stackLong;
+      slots = d .rows .keptLong;
+      cells = d .rows .hintsLong;
     }

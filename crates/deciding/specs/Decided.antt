@@ -1,7 +1,7 @@
 -- Document 01, "then gate by gate 15, 14, 16": a check whose files are all good, over any bounds: its gates, and then the verdict.
 use mathlib.Core.Path.{_≡_}
 use mathlib.Core.List.{List}
-use Prim.Native.Nat.{ℕ, _*_, _≤_}
+use Prim.Native.Nat.{ℕ, _≤_}
 use lib.ListN.{length}
 use Rattle.automata.specs.Sets.{QSet}
 use Rattle.stored.specs.Refusal.{Judged, good, onGood}
@@ -30,9 +30,17 @@ decided b J most = replyOf (answer most) (gatesJudged b J)
 unfoldable pub checkedBy : Bounds → Bounds → List ℕ → List ℕ → List ℕ → ℕ → Reply
 checkedBy b eb s c e most = replyOf (answer most) (onGood (filesJudged b eb s c e) (gatesJudged b))
 
+-- the rows of the last phase: a word of marks for 32 pairs of at most 1,024 image states and 128 end states; such marks along a word, and
+-- remembered; and bytes for the states of the blocks that are remembered
+pub record LastRows (met stack kept hints : List ℕ) : Type 0 where
+  pub metLong : 4096 ≤ length met
+  pub stackLong : 16384 ≤ length stack
+  pub keptLong : 16384 ≤ length kept
+  pub hintsLong : 32768 ≤ length hints
+
 -- what the gates and the walk ask: the start set in table A, room in table B and in the lists, the end set in table E with as many qubits, at most
--- 128 end states to four words of marks each, at most 1,024 states of an image, and a cell for each of them
-pub record Deciding (circuit : List ℕ) (count : ℕ) (form endform : Form) (A B : Table) (cur next link heads : List ℕ) (E : Table) (met reached : List ℕ) (room : Room) : Type 0 where
+-- 128 end states, at most 1,024 states of an image, and the rows of the last phase
+pub record Deciding (circuit : List ℕ) (count : ℕ) (form endform : Form) (A B : Table) (cur next link heads : List ℕ) (E : Table) (met stack kept hints : List ℕ) (room : Room) : Type 0 where
   pub readable : Readable (form .n) circuit 0 count
   pub fit : AllFit (form .n) (gatesFrom (form .n) circuit 0 count)
   pub start : StandsOn A form (boundsFrom room)
@@ -44,5 +52,4 @@ pub record Deciding (circuit : List ℕ) (count : ℕ) (form endform : Form) (A 
   pub qubits : endform .n ≡ form .n
   pub narrow : bounds .states ≤ 128
   pub small : room .states ≤ 1024
-  pub marks : room .states * 4 ≤ length met
-  pub cells : room .states ≤ length reached
+  pub rows : LastRows met stack kept hints

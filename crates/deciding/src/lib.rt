@@ -5,7 +5,7 @@ use carrying::run_gates;
 use replies::Reply;
 use replies::refused;
 use setfile::Form;
-use walking::walk;
+use striding::stride;
 ghost use mathlib.Core.Path.{_≡_};
 ghost use Rattle.jobs.specs.Check.{ready};
 ghost use Rattle.replies.specs.Replied.{replyFrom};
@@ -13,9 +13,6 @@ ghost use Rattle.applying.specs.Result.{boundsFrom};
 ghost use Rattle.carrying.specs.Tables.{tableOf, setOn};
 ghost use Rattle.carrying.specs.Carried.{gatesFrom};
 ghost use Rattle.deciding.specs.Decided.{decided, Deciding};
-
-// Words of marks to an image state: four, for 128 end states.
-const WIDE: u16 = 4;
 
 // The reply to good files: the start set stands in table A, table B is for the gates, and the end set stands in the third one.
 pub fn decide(
@@ -43,12 +40,14 @@ pub fn decide(
     endcounts: &[u16],
     endfirst: &[u16],
     met: &mut [u32],
-    reached: &mut [u8],
+    stack: &mut [u32],
+    kept: &mut [u32],
+    hints: &mut [u8],
     most: u32,
     room: Room,
 ) -> Reply
     requires { ⌜ Deciding (now circuit) count form endform (tableOf (now arows) (now amasks) (now acoefs) (now acounts) (now afirst)) (tableOf (now brows) (now bmasks) (now bcoefs) (now bcounts) (now bfirst)) (now cur) (now next) (now link) (now heads)
-        (tableOf (now endrows) (now endmasks) (now endcoefs) (now endcounts) (now endfirst)) (now met) (now reached) room ⌝ }
+        (tableOf (now endrows) (now endmasks) (now endcoefs) (now endcounts) (now endfirst)) (now met) (now stack) (now kept) (now hints) room ⌝ }
     ensures { λ r. ⌜ r ≡ replyFrom (decided (boundsFrom room)
         (ready (setOn form (tableOf (now (arows .entry)) (now (amasks .entry)) (now (acoefs .entry)) (now (acounts .entry)) (now (afirst .entry)))) (gatesFrom (form .n) (now (circuit .entry)) 0 count)
         (setOn endform (tableOf (now (endrows .entry)) (now (endmasks .entry)) (now (endcoefs .entry)) (now (endcounts .entry)) (now (endfirst .entry))))) most) ⌝ }
@@ -78,7 +77,7 @@ pub fn decide(
         return refused(done.refusal);
     }
     if done.second {
-        return walk(
+        return stride(
             n,
             brows,
             bmasks,
@@ -91,12 +90,13 @@ pub fn decide(
             endcounts,
             endfirst,
             met,
-            WIDE,
-            reached,
+            stack,
+            kept,
+            hints,
             most,
         );
     }
-    walk(
+    stride(
         n,
         arows,
         amasks,
@@ -109,8 +109,9 @@ pub fn decide(
         endcounts,
         endfirst,
         met,
-        WIDE,
-        reached,
+        stack,
+        kept,
+        hints,
         most,
     )
 }

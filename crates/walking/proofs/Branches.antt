@@ -87,7 +87,7 @@ module _ (rows masks : List ℕ) (coefs : List ℤ) (first : List ℕ) where
       go (some p) = both-some m (treeOf S (suc (suc at)) m v (p .0)) (treeOf S (suc (suc at)) m v (p .1))
 
   module _ {row row′ : List ℕ} (from c : ℕ) {to till : ℕ} {r : Bool} (gone : Gone row to till (λ g. allReached (kidsIn rows masks first c g) row from to) row′ r) where
-    trees-down : (at m : ℕ) (v : List ℕ) → treesBy rows masks coefs first at (suc m) row from to (c ∷ v) ≡ r && treesBy rows masks coefs first (suc at) m row′ to till v
+    pub trees-down : (at m : ℕ) (v : List ℕ) → treesBy rows masks coefs first at (suc m) row from to (c ∷ v) ≡ r && treesBy rows masks coefs first (suc at) m row′ to till v
     trees-down at m v =
         reached-same (λ (s : ℕ). isSome (treeOf S (suc at) (suc m) (c ∷ v) s)) (kidsIn rows masks first c (λ (q : ℕ). isSome (treeOf S (suc (suc at)) m v q))) row row from to
         (λ s lo hi. refl) (λ s lo hi. down at m c v s)
@@ -118,7 +118,7 @@ module _ (rows masks : List ℕ) (coefs : List ℤ) (first : List ℕ) where
       sym (ap isSome (choose-rows (leafOf rows coefs) masks c (getD first s 0) (getD first (s + 1) 0 - getD first s 0))
       ∙ some-map (leafOf rows coefs) (transitionRow masks first s c))
 
-  last-trees : (n c : ℕ) (row : List ℕ) (from to : ℕ) → allReached (λ (q : ℕ). isSome (transitionRow masks first q c)) row from to ≡ treesBy rows masks coefs first n 0 row from to (c ∷ [])
+  pub last-trees : (n c : ℕ) (row : List ℕ) (from to : ℕ) → allReached (λ (q : ℕ). isSome (transitionRow masks first q c)) row from to ≡ treesBy rows masks coefs first n 0 row from to (c ∷ [])
   last-trees n c row from to =
       reached-same (λ (q : ℕ). isSome (transitionRow masks first q c)) (λ (s : ℕ). isSome (treeOf S (suc n) 0 (c ∷ []) s)) row row from to (λ s lo hi. refl) (λ s lo hi. leaf-has c s)
 

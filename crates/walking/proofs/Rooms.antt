@@ -25,17 +25,17 @@ start-rises : (cs : List ℕ) (a k : ℕ) → startOf cs a ≤ startOf cs (a + k
 start-rises cs a zero = let e : a ≡ a + 0 = omega arith in omega (arith, ap (startOf cs) e)
 start-rises cs a (suc k) = let e : a + suc k ≡ suc (a + k) = omega arith in omega (arith, start-rises cs a k, start-next cs (a + k), ap (startOf cs) e)
 
-start-up : (cs : List ℕ) (a b : ℕ) → a ≤ b → startOf cs a ≤ startOf cs b
+pub start-up : (cs : List ℕ) (a b : ℕ) → a ≤ b → startOf cs a ≤ startOf cs b
 start-up cs a b h = let e : a + (b - a) ≡ b = omega arith in omega (arith, start-rises cs a (b - a), ap (startOf cs) e)
 
-small-set : (word : List ℕ) (at c : ℕ) → ((i : ℕ) → getD word i 0 < choicesMost) → c < choicesMost → at < length word → (i : ℕ) → getD (set word at c) i 0 < choicesMost
+pub small-set : (word : List ℕ) (at c : ℕ) → ((i : ℕ) → getD word i 0 < choicesMost) → c < choicesMost → at < length word → (i : ℕ) → getD (set word at c) i 0 < choicesMost
 small-set word at c h k there i = go (eqb i at) refl
   where
     go : (b : Bool) → eqb i at ≡ b → getD (set word at c) i 0 < choicesMost
     go true e = omega (arith, ap (λ (j : ℕ). getD (set word at c) j 0) (eqb-true i at e), getD-set-same word at c 0 there)
     go false e = omega (arith, getD-set-other word at i c 0 (eqb-false i at e), h i)
 
-zeros-small : (k i : ℕ) → getD {A = ℕ} (replicate k 0) i 0 < choicesMost
+pub zeros-small : (k i : ℕ) → getD {A = ℕ} (replicate k 0) i 0 < choicesMost
 zeros-small zero i = omega arith
 zeros-small (suc k) zero = omega arith
 zeros-small (suc k) (suc i) = zeros-small k i

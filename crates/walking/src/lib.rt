@@ -42,7 +42,7 @@ pub struct Tally {
 }
 
 // Whether the check has stopped.
-fn stopped(t: Tally) -> bool
+pub fn stopped(t: Tally) -> bool
     ensures { λ r. ⌜ (r ≡ true → Halted t) ⌝ }
 {
     let k = t.kind;
@@ -54,7 +54,7 @@ fn stopped(t: Tally) -> bool
 }
 
 // The reply of a check that is over.
-fn reply_of(t: Tally) -> Reply
+pub fn reply_of(t: Tally) -> Reply
     ensures { λ r. ⌜ r ≡ replyOf t ⌝ }
 {
     let k = t.kind;
@@ -67,7 +67,7 @@ fn reply_of(t: Tally) -> Reply
 }
 
 // One member more: the allowance b is used up, or the member is tested.
-fn tick(
+pub fn tick(
     n: u8,
     rows: &[u16],
     masks: &[u32],

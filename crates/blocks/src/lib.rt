@@ -1,0 +1,1 @@
+// Blocks of a walk that remembers: definitions and theorems only.
