@@ -1,4 +1,4 @@
-//! Times the check on large families of jobs, and on small random ones, by the proved library, by the same walk in Rust, and member by member in
+//! Times the check on large families of jobs, and on small random ones, by the proved library, by a walk that remembers in Rust, and member by member in
 //! Rust. All replies are compared with the expected lines before anything is timed.
 //!
 //! usage: check FAMILIES RANDOM     two directories that tests/reference/families.py wrote
@@ -203,13 +203,13 @@ fn columns(times: &[Option<(Duration, Duration)>]) -> String {
 fn heading(first: &str) {
     println!(
         "{first} {:>23} {:>23} {:>23}",
-        "library", "Rust, the same walk", "Rust, by members"
+        "library", "Rust, remembering", "Rust, by members"
     );
 }
 
 fn families(jobs: &[Named]) {
     for job in jobs {
-        same("Rust, the same walk", job, &line(&by_walk(&job.job)));
+        same("Rust, remembering", job, &line(&by_walk(&job.job)));
     }
     println!(
         "{} jobs of the families: the expected line from the walk in Rust",
@@ -260,7 +260,7 @@ fn families(jobs: &[Named]) {
 fn random(jobs: &[Named]) {
     for job in jobs {
         same("library", job, &line_by_library(&job.job));
-        same("Rust, the same walk", job, &line(&by_walk(&job.job)));
+        same("Rust, remembering", job, &line(&by_walk(&job.job)));
         same("Rust, by members", job, &line(&by_members_whole(&job.job)));
     }
     println!(

@@ -99,10 +99,8 @@ def lacking(bits):
     n = len(bits)
 
     def rows(i, name):
-        return [row for side, row in enumerate(turns("free")) if name == "free" or side != bits[i]] + so_far(i, name)
-
-    def so_far(i, name):
-        return [turns("so far")[bits[i]]] if name == "so far" and i < n - 1 else []
+        to = [name if name == "so far" and bits[i] == side else "free" for side in range(2)]
+        return [turns(to[side])[side] for side in range(2) if i < n - 1 or to[side] == "free"]
 
     levels = [below(i, {name: rows(i, name) for name in ("so far", "free")[:1 + (i > 0)]}) for i in range(n)]
     return named(0, levels + [{"free": [(1, ONE)], "zero": [(1, ZERO)]}])
@@ -144,26 +142,35 @@ def low(n):
     return named(0, levels + [{"path": [(1, ONE)], "zero": [(1, ZERO)]}])
 
 
-def crowd(n, bits=None):
+def crowd(n, bits=None, trees=5, poor=False):
     """All basis states, or all but that of these bits, by words that a search finds late, with many kinds of pairs on the way.
 
-    On the last 6 levels the path's other child is one of five zero trees, as the choice says. No two of them have a common choice at the leaves, and on
-    the last level it is the fifth: only who took the fifth on each of these levels ends well. 31 sets of zero trees may stand beside the path by then.
+    On the last 6 levels the path's other child is one of some zero trees, as the choice says. No two of them have a common choice at the leaves, and on
+    the last level it is the last tree: only who took that one on each of these levels ends well. Five trees make 31 sets that may stand beside the path.
+    Poor: on the first of the 6 levels a path to the right cannot take the last tree, so that no basis state with a 1 there ends well. Two levels below,
+    the first 16 ways from there are those from a 0.
     """
+    first, last_tree = max(0, n - 6), trees - 1
+
+    def offered(i, side):
+        if i < first:
+            return [(0, "zero")]
+        kept = [last_tree] if i == n - 1 else range(trees)
+        return [(x, x) for x in kept if not (poor and i == first and side == 1 and x == last_tree)]
+
     def rows(i, name):
-        last = i == n - 1
         to = [name if name == "so far" and bits[i] == side else "free" for side in range(2)]
-        sides = [side for side in range(2) if not (last and to[side] == "so far")]
-        zeros = [(4, 4)] if last else enumerate(range(5)) if i >= n - 6 else [(0, "zero")]
-        return [(1 << 2 * x + side, *((to[side], zero) if side == 0 else (zero, to[side]))) for x, zero in zeros for side in sides]
+        sides = [side for side in range(2) if not (i == n - 1 and to[side] == "so far")]
+        return [(1 << 2 * x + side, *((to[side], zero) if side == 0 else (zero, to[side]))) for side in sides for x, zero in offered(i, side)]
 
     def states(i):
         paths = (["free"] if i or not bits else []) + (["so far"] if bits else [])
-        zeros = range(5) if i > max(0, n - 6) else ()
-        return {name: rows(i, name) for name in paths} | {zero: [(1023, zero, zero)] for zero in zeros}
+        zeros = range(trees) if i > first else ()
+        return {name: rows(i, name) for name in paths} | {zero: [((1 << 2 * trees) - 1, zero, zero)] for zero in zeros}
 
-    levels = [below(i, states(i), 10) for i in range(n)]
-    return named(0, levels + [{"free": [(31, ONE)], "zero": [(31, ZERO)]} | {x: [(1 << x, ZERO)] for x in range(5)}])
+    levels = [below(i, states(i), 2 * trees) for i in range(n)]
+    every = (1 << trees) - 1
+    return named(0, levels + [{"free": [(every, ONE)], "zero": [(every, ZERO)]} | {x: [(1 << x, ZERO)] for x in range(trees)}])
 
 
 # ---- jobs
@@ -233,6 +240,8 @@ def of_crowds(n):
     starts, bits = low(n), bits_of(place, n)
     yield "crowd", starts, [], crowd(n), MOST, f"holds {all_of}"
     yield "crowd-one", starts, [], crowd(n, bits), MOST, fails(place, bits + [0])
+    after = 1 << n - 1 - max(0, n - 6)
+    yield "crowd-poor", starts, [], crowd(n, None, 6, True), MOST, fails(after + 1, bits_of(after + 1, n) + [0])
     yield "crowd-one-not-allowed", starts, [], crowd(n, bits), place - 1, f"undecided {place - 1}"
 
 
