@@ -7,8 +7,9 @@ use mathlib.Core.Option.{Option, none, some}
 use Prim.Native.Nat.{ℕ, _+_, _-_, _*_, _<_, _≤_}
 use lib.Dec.{eqb}
 use lib.ListN.{length, getD}
+use Rattle.automata.specs.Choice.{choicesMost, has}
 use Rattle.tables.specs.Table.{rowWidth}
-use Rattle.lookup.specs.Lookup.{pairRow}
+use Rattle.lookup.specs.Lookup.{pairRow, choicesOf}
 use Rattle.meeting.specs.All.{allIn}
 use Rattle.stepping.specs.Step.{moveIn, Inner}
 
@@ -31,6 +32,10 @@ bothPass g (some p) = g (p .0) && g (p .1)
 -- the children of state s of a table under choice c pass
 abbrev pub kidsIn : List ℕ → List ℕ → List ℕ → ℕ → (ℕ → Bool) → ℕ → Bool
 kidsIn rows masks first c g s = bothPass g (moveIn rows masks first c s)
+
+-- state s has a transition with choice d
+abbrev pub hasChoice : List ℕ → List ℕ → ℕ → ℕ → Bool
+hasChoice masks first d s = has (choicesOf masks first s) d
 
 -- ---- what is asked
 -- both children of row i have their cells in a row of so many
@@ -88,3 +93,11 @@ pub record Spread (row : List ℕ) (from to : ℕ) (all : (ℕ → Bool) → Boo
 pub record Gone (row : List ℕ) (from to : ℕ) (all : (ℕ → Bool) → Bool) (row′ : List ℕ) (r : Bool) : Type 0 where
   pub kept : Kept row from row′
   pub is : (g : ℕ → Bool) → r && allReached g row′ from to ≡ all g
+
+-- ---- the choices of a mask in turn
+-- c is the mask's first choice from `from` on, or 32 where it has none
+pub record NextChoice (mask from c : ℕ) : Type 0 where
+  pub after : from ≤ c
+  pub most : c ≤ choicesMost
+  pub skipped : (d : ℕ) → from ≤ d → d < c → has mask d ≡ false
+  pub here : c < choicesMost → has mask c ≡ true

@@ -1,16 +1,22 @@
 // The states that a member's word so far reaches, as bytes of one lent row: cell s is 1 if state s is reached. States of different levels are
 // different numbers, so the states of all levels of a word stand in one row. One choice takes a level's reached states to the next level's.
 use lookup::Found;
+use lookup::choices_of;
+use lookup::has_choice;
 use lookup::transition;
 ghost use mathlib.Core.Path.{_≡_};
+ghost use mathlib.Core.Bool.{_&&_};
 ghost use Prim.Native.Nat.{ℕ, _≤_, _<_};
 ghost use lib.ListN.{length};
-ghost use Rattle.automata.specs.Choice.{choicesMost};
+ghost use Rattle.automata.specs.Choice.{choicesMost, has};
 ghost use Rattle.lookup.specs.Lookup.{transitionRow, pairRow, isSome};
-ghost use Rattle.reaching.specs.Reached.{isReached, ifReached, allReached, kidsIn, Reaching, Emptied, KidsThere, Twice, Ready, Stage, Ended, Spread, Gone};
+ghost use Rattle.reaching.specs.Reached.{isReached, ifReached, allReached, kidsIn, hasChoice, Reaching, Emptied, KidsThere, Twice, Ready, Stage, Ended, Spread, Gone, NextChoice};
 
 // A row's places in `rows`.
 const ROW_WIDTH: usize = 3;
+
+// Every choice.
+const ALL: u32 = 4294967295;
 
 // State s is reached.
 fn is_reached(reached: &[u8], s: u16) -> bool
@@ -154,4 +160,44 @@ pub fn ends_all(masks: &[u32], first: &[u16], reached: &[u8], c: u8, from: u16, 
         s += 1;
     }
     true
+}
+
+// The mask with the choices of state s only, if it is reached.
+fn reached_state(masks: &[u32], first: &[u16], reached: &[u8], s: u16, mask: u32) -> u32
+    requires { ⌜ Ended (now masks) (now first) s × (s < length (now reached)) ⌝ }
+    ensures { λ r. ⌜ ((d : ℕ) → has r d ≡ has mask d && ifReached (hasChoice (now (masks .entry)) (now (first .entry)) d) (now (reached .entry)) s) ⌝ }
+{
+    if !is_reached(reached, s) {
+        return mask;
+    }
+    mask & choices_of(masks, first, s)
+}
+
+// The choices that all reached states from `from` up to below `to` have: a word can go on with no other. All choices where none is reached.
+pub fn reached_choices(masks: &[u32], first: &[u16], reached: &[u8], from: u16, to: u16) -> u32
+    requires { ⌜ ((s : ℕ) → from ≤ s → s < to → Ended (now masks) (now first) s) × (to ≤ length (now reached)) ⌝ }
+    ensures { λ r. ⌜ ((d : ℕ) → d < choicesMost → has r d ≡ allReached (hasChoice (now (masks .entry)) (now (first .entry)) d) (now (reached .entry)) from to) ⌝ }
+{
+    let mut left: u32 = ALL;
+    let mut s = from;
+    while s < to {
+        left = reached_state(masks, first, reached, s, left);
+        s += 1;
+    }
+    left
+}
+
+// The mask's first choice from `from` on, or 32 where it has none.
+pub fn next_choice(mask: u32, from: u8) -> u8
+    requires { ⌜ from ≤ choicesMost ⌝ }
+    ensures { λ r. ⌜ NextChoice mask from r ⌝ }
+{
+    let mut c = from;
+    while c < 32 {
+        if has_choice(mask, c) {
+            return c;
+        }
+        c += 1;
+    }
+    c
 }
