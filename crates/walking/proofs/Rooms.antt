@@ -3,6 +3,7 @@ use mathlib.Core.Path.{_≡_, refl, sym, ap, _∙_, subst}
 use mathlib.Core.Bool.{Bool, true, false}
 use mathlib.Core.List.{List}
 use Prim.Native.Nat.{ℕ, zero, suc, _+_, _-_, _*_, _<_, _≤_}
+use native.Mathlib.Decide.{decLt}
 use native.Mathlib.Nat.{mul-le-mul-right}
 use native.Mathlib.Numerals.{add-one}
 use native.Mathlib.Omega.{arith}
@@ -154,3 +155,11 @@ module _ {rows masks : List ℕ} {coefs : List ℤ} {counts first endRows endMas
 
         pub till-later : to ≤ till
         till-later = stage .levels
+
+    -- the rows of each state of the level are there
+    pub states-there : (s : ℕ) → from ≤ s → s < to → Ended masks first s
+    states-there s lo hi = go (decLt 0 m)
+      where
+        go : Dec (0 < m) → Ended masks first s
+        go (yes some) = let i = stage (λ z. omega arith) refl .inner s lo hi in record { begun = i .begun; long = i .long }
+        go (no none) = leaves-there (omega arith) s lo hi
