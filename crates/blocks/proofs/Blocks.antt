@@ -22,7 +22,7 @@ use Rattle.lookup.specs.Alts.{tableAutomaton}
 use Rattle.meeting.specs.declared.Level.{Level}
 use Rattle.matching.specs.Levels.{IsLevel}
 use Rattle.matching.specs.Seeking.{wordFrom}
-use Rattle.reaching.specs.Reached.{allReached, kidsIn, Kept, Gone}
+use Rattle.reaching.specs.Reached.{allReached, kidsIn, hasChoice, Kept, Gone}
 use Rattle.relating.specs.Found.{found}
 use Rattle.relating.specs.Roots.{Whole}
 use Rattle.filling.specs.Fill.{Low, Filled}
@@ -30,6 +30,7 @@ use Rattle.remembering.specs.Memory.{Same}
 use Rattle.walking.specs.Walk.{membersBy, filled, treesBy, visitOf, passesIn}
 use Rattle.walking.proofs.Branches.{same-members, trees-down, last-trees}
 use Rattle.walking.proofs.Rooms.{zeros-small}
+use Rattle.walking.proofs.Skips.{trees-lack}
 use Rattle.blocks.specs.Good.{allOf, levelOf, foundIn, good, Clean, OnPath}
 use Rattle.blocks.proofs.Words.{Spelt, spelt-from, members-is, members-tell, members-long, fill-long, fill-low, fill-small, fill-read}
 use Rattle.blocks.proofs.Founds.{found-words, found-low, found-block, trees-kept, trees-block}
@@ -106,6 +107,22 @@ module _ {rows masks : List ℕ} {coefs : List ℤ} {first endRows endMasks : Li
     where
       below′ : Clean rows masks coefs first endRows endMasks endCoefs endFirst wide plane (at + 1) m q next row′ stack′ 0 choicesMost
       below′ = let less : suc m - 1 ≡ m = omega arith in rw less at below
+
+-- ---- choices that a state reached lacks
+word-lacks : (rows masks : List ℕ) (coefs : List ℤ) (first row : List ℕ) (from to : ℕ) (w : List ℕ) (at m : ℕ) → allReached (hasChoice masks first (getD w at 0)) row from to ≡ false → treesBy rows masks coefs first at m row from to (wordFrom w at m) ≡ false
+unfolding wordFrom
+word-lacks rows masks coefs first row from to w at zero e = trees-lack rows masks coefs first row from to at 0 (getD w at 0) [] e
+word-lacks rows masks coefs first row from to w at (suc m) e = trees-lack rows masks coefs first row from to at (suc m) (getD w at 0) (wordFrom w (at + 1) m) e
+
+module _ {rows masks : List ℕ} {coefs : List ℤ} {first endRows endMasks : List ℕ} {endCoefs : List ℤ} {endFirst : List ℕ} {wide plane at m p : ℕ} {l : Level} {row stack : List ℕ} {lo hi : ℕ} where
+  pub clean-skip : ((d : ℕ) → lo ≤ d → d < hi → allReached (hasChoice masks first d) row (l .from) (l .to) ≡ false)
+      → Clean rows masks coefs first endRows endMasks endCoefs endFirst wide plane at m p l row stack 0 lo → Clean rows masks coefs first endRows endMasks endCoefs endFirst wide plane at m p l row stack 0 hi
+  clean-skip lacks a = record { each = λ w small low high h. go w small high h (decLt (getD w at 0) lo) }
+    where
+      go : (w : List ℕ) → ((i : ℕ) → getD w i 0 < choicesMost) → getD w at 0 < hi → treesBy rows masks coefs first at m row (l .from) (l .to) (wordFrom w at m) ≡ true
+          → Dec (getD w at 0 < lo) → found (tableAutomaton rows masks coefs first) (tableAutomaton endRows endMasks endCoefs endFirst) w at m wide plane stack p l ≡ true
+      go w small high h (yes lt) = a .each w small (omega arith) lt h
+      go w small high h (no lt) = absurd (false≢true (sym (word-lacks rows masks coefs first row (l .from) (l .to) w at m (lacks (getD w at 0) (omega arith) high)) ∙ h))
 
 -- ---- the last level
 module _ {rows masks : List ℕ} {coefs : List ℤ} {first endRows endMasks : List ℕ} {endCoefs : List ℤ} {endFirst : List ℕ} {wide plane at m p : ℕ} {l : Level} {row stack : List ℕ} {c : ℕ} where

@@ -18,13 +18,13 @@ use Rattle.matching.specs.Seeking.{Lent, Seeking}
 use Rattle.matching.proofs.Grounds.{starts-small, level-there}
 use Rattle.matching.proofs.LevelLaws.{start-next}
 use Rattle.matching.proofs.Turns.{one-less, leaf-stage, stage as pair-stage}
-use Rattle.reaching.specs.Reached.{Stage}
+use Rattle.reaching.specs.Reached.{Stage, Ended}
 use Rattle.relating.specs.Found.{found}
 use Rattle.filling.specs.Fill.{Ground, Low, Filled}
 use Rattle.remembering.specs.Fits.{Fits}
 use Rattle.remembering.specs.Memory.{Memory}
 use Rattle.walking.specs.Walk.{passesIn, Both, Visiting}
-use Rattle.walking.proofs.Rooms.{start-up, small-set, both-again, few-levels, at-few, lent, visit-again, leaves-there, level-celled, stage as reach-stage}
+use Rattle.walking.proofs.Rooms.{start-up, small-set, both-again, few-levels, at-few, lent, visit-again, leaves-there, states-there, level-celled, stage as reach-stage}
 use Rattle.blocks.specs.Good.{good, Clean, OnPath}
 use Rattle.blocks.specs.Block.{rowCells, Sized, Entered, Ending}
 use Rattle.blocks.proofs.Blocks.{path-kept, path-down, path-set}
@@ -52,6 +52,10 @@ module _ {rows masks : List ℕ} {coefs : List ℤ} {counts first endRows endMas
 
   pub level-rises : l .from ≤ l .to
   level-rises = omega (arith, t .here .from, t .here .to, starts-rise counts at)
+
+  -- for the level's choices
+  pub choices-asked : ((s : ℕ) → l .from ≤ s → s < l .to → Ended masks first s) × (l .to ≤ cells)
+  choices-asked = (states-there (t .visiting), level-celled (t .visiting))
 
   -- for the look-up
   pub block-fits : {row : List ℕ} → length row ≡ cells → Fits at (l .from) (l .to) p wide plane room rowCells slots row stack kept hints seen sizes

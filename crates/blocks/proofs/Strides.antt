@@ -8,12 +8,12 @@ use native.Mathlib.Omega.{arith}
 use lib.IntN.{ℤ}
 use lib.ListN.{length, getD, set}
 use Rattle.amplitude.proofs.Equal.{both}
-use Rattle.automata.specs.Choice.{choicesMost}
+use Rattle.automata.specs.Choice.{choicesMost, has}
 use Rattle.automata.specs.Members.{Member}
 use Rattle.jobs.specs.Reply.{wordPlaces}
 use Rattle.meeting.specs.declared.Level.{Level}
 use Rattle.matching.specs.Levels.{startOf, IsLevel}
-use Rattle.reaching.specs.Reached.{allReached, kidsIn, Kept, Gone}
+use Rattle.reaching.specs.Reached.{allReached, kidsIn, hasChoice, Kept, Gone, NextChoice}
 use Rattle.reaching.proofs.Spreads.{kept-same, kept-on, kept-less}
 use Rattle.filling.specs.Fill.{Low, Filled}
 use Rattle.filling.proofs.Grows.{low-same, low-on}
@@ -24,11 +24,12 @@ use Rattle.walking.specs.Tallied.{tallied}
 use Rattle.walking.specs.Walk.{membersBy, treesBy, visitOf, passesIn}
 use Rattle.walking.proofs.Branches.{branch-fails, branch-goes}
 use Rattle.walking.proofs.Rooms.{at-few}
+use Rattle.walking.proofs.Skips.{skip-lacks}
 use Rattle.blocks.specs.Good.{allOf, good, Clean}
 use Rattle.blocks.specs.Block.{rowCells, Entered, Strode}
 use Rattle.blocks.proofs.Words.{set-letter}
 use Rattle.blocks.proofs.Counts.{all-counted}
-use Rattle.blocks.proofs.Blocks.{clean-none, clean-turn, clean-all, clean-kept, clean-dead, clean-down, good-tells, good-is, block-passes}
+use Rattle.blocks.proofs.Blocks.{clean-none, clean-turn, clean-all, clean-skip, clean-kept, clean-dead, clean-down, good-tells, good-is, block-passes}
 use Rattle.blocks.proofs.Entries.{entered-few, level-narrow, level-long, next-from}
 
 low-up : {wide plane : ℕ} {l next : Level} {stack stack′ : List ℕ} → l .to ≤ next .to → Low wide plane next stack stack′ → Low wide plane l stack stack′
@@ -50,6 +51,18 @@ module _ {rows masks : List ℕ} {coefs : List ℤ} {counts first endRows endMas
   -- ---- choice after choice
   pub strode-begin : (row : List ℕ) → Strode rows masks coefs counts first endRows endMasks endCoefs endCounts endFirst wide plane room slots n at m p l row stack 0 0 true row stack seen sizes hints kept
   strode-begin row = strode-still row (λ e. clean-none)
+
+  -- the choices that the level's mask lacks
+  pub strode-skip : {row row′ stack′ seen′ sizes′ hints′ kept′ : List ℕ} {mask lo hi : ℕ} {clean : Bool}
+      → ((d : ℕ) → d < choicesMost → has mask d ≡ allReached (hasChoice masks first d) row (l .from) (l .to)) → NextChoice mask lo hi
+      → Strode rows masks coefs counts first endRows endMasks endCoefs endCounts endFirst wide plane room slots n at m p l row stack 0 lo clean row′ stack′ seen′ sizes′ hints′ kept′
+      → Strode rows masks coefs counts first endRows endMasks endCoefs endCounts endFirst wide plane room slots n at m p l row stack 0 hi clean row′ stack′ seen′ sizes′ hints′ kept′
+  strode-skip {row} is next s = record {
+    reached = s .reached;
+    marks = s .marks;
+    memory = s .memory;
+    found = λ k. clean-skip (skip-lacks rows masks coefs first row (l .from) (l .to) is next) (s .found k);
+  }
 
   pub strode-turn : {row row′ row″ stack′ stack″ seen′ sizes′ hints′ kept′ seen″ sizes″ hints″ kept″ : List ℕ} {c : ℕ} {clean clean′ : Bool}
       → Strode rows masks coefs counts first endRows endMasks endCoefs endCounts endFirst wide plane room slots n at m p l row stack 0 c clean row′ stack′ seen′ sizes′ hints′ kept′
