@@ -9,9 +9,11 @@ use outcomes::Outcome;
 use outcomes::finish;
 use outcomes::remember;
 use outcomes::skip;
+use reaching::next_choice;
 use reaching::reach;
 use reaching::reach_next;
 use reaching::reach_none;
+use reaching::reached_choices;
 use relating::begin;
 use remembering::find;
 use walking::Tally;
@@ -363,7 +365,7 @@ fn enter(
     r
 }
 
-// The members whose words go on from a block, choice after choice.
+// The members whose words go on from a block, choice after choice: those only that all states reached have.
 fn visit(
     n: u8,
     left: u8,
@@ -402,9 +404,10 @@ fn visit(
     requires { ⌜ Entered (now rows) (now masks) (now coefs) (now counts) (now first) (now endrows) (now endmasks) (now endcoefs) (now endcounts) (now endfirst) wide plane room slots n at left p level root word (now stack) (now seen) (now sizes) (now hints) (now kept) (length (now free)) (length (now may)) (length (now met)) (length (now turn)) (length (now reached)) ⌝ }
     ensures { λ r. ⌜ (r .tally ≡ tallied (passesIn (now (rows .entry)) (now (masks .entry)) (now (coefs .entry)) (now (first .entry)) (now (endrows .entry)) (now (endmasks .entry)) (now (endcoefs .entry)) (now (endcounts .entry)) (now (endfirst .entry)) n) b t (visitOf (now (rows .entry)) (now (masks .entry)) (now (coefs .entry)) (now (first .entry)) root word at left (now (reached .entry)) (level .from) (level .to))) × Strode (now (rows .entry)) (now (masks .entry)) (now (coefs .entry)) (now (counts .entry)) (now (first .entry)) (now (endrows .entry)) (now (endmasks .entry)) (now (endcoefs .entry)) (now (endcounts .entry)) (now (endfirst .entry)) wide plane room slots n at left p level (now (reached .entry)) (now (stack .entry)) 0 choicesMost (r .clean) (now (reached .exit)) (now (stack .exit)) (now (seen .exit)) (now (sizes .exit)) (now (hints .exit)) (now (kept .exit)) ⌝ }
 {
+    let shared = reached_choices(masks, first, reached, level.from, level.to);
     let mut so_far = t;
     let mut clean = true;
-    let mut c: u8 = 0;
+    let mut c = next_choice(shared, 0);
     while c < 32 {
         if stopped(so_far) {
             return Outcome {
@@ -451,7 +454,7 @@ fn visit(
         let tally = r.tally;
         so_far = tally;
         clean = clean & r.clean;
-        c += 1;
+        c = next_choice(shared, c + 1);
     }
     Outcome {
         tally: so_far,

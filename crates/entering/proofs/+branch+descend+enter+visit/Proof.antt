@@ -1,4 +1,4 @@
--- The cycle of the walk: `visit` tries the choices of a block in turn, `branch` ends the word or goes on, `descend` makes the next level's block,
+-- The cycle of the walk: `visit` tries the choices that all states of a block have in turn, `branch` ends the word or goes on, `descend` makes the next level's block,
 -- and `enter` knows it already or visits it and remembers it. The qubits left fall. Assumes nothing.
 use mathlib.Core.Path.{_≡_, refl, sym, ap, _∙_}
 use Prim.Native.Nat.{ℕ, suc, _+_, _-_, _*_, _<_}
@@ -19,10 +19,11 @@ use Rattle.walking.specs.Walk.{passesIn, treesBy, branchOf, visitOf}
 use Rattle.walking.proofs.TallyLaws.{tally-halted, turn-on, turn-end}
 use Rattle.walking.proofs.Branches.{members-turn, branch-last, branch-same}
 use Rattle.walking.proofs.Rooms.{at-few}
+use Rattle.walking.proofs.Skips.{skip-members}
 use Rattle.blocks.specs.Good.{good}
 use Rattle.blocks.specs.Block.{Entered, Strode}
-use Rattle.blocks.proofs.Entries.{starts-rise, block-fits, entered-set, entered-again, ending, next-asked, next-from, next-later, reach-asked, fill-asked, entered-down}
-use Rattle.blocks.proofs.Strides.{strode-last, strode-begin, strode-turn, strode-dead, strode-down, dead-members, down-members, known-many, known-pass, known-strode, counted-more, kept-good, strode-kept, strode-all, strode-stops}
+use Rattle.blocks.proofs.Entries.{starts-rise, choices-asked, block-fits, entered-set, entered-again, ending, next-asked, next-from, next-later, reach-asked, fill-asked, entered-down}
+use Rattle.blocks.proofs.Strides.{strode-last, strode-begin, strode-skip, strode-turn, strode-dead, strode-down, dead-members, down-members, known-many, known-pass, known-strode, counted-more, kept-good, strode-kept, strode-all, strode-stops}
 use Rattle.entering.proofs.branch.Reads as branch
 use Rattle.entering.proofs.branch.Kinds as branch-kinds
 use Rattle.entering.proofs.+branch+descend+enter+visit.Lts-branch as branch-lts
@@ -37,7 +38,9 @@ use Rattle.entering.proofs.visit.Kinds as visit-kinds
 use Rattle.entering.proofs.+branch+descend+enter+visit.Lts-visit as visit-lts
 use Rattle.filling.proofs.fill.Reads as fill-reads
 use Rattle.matching.proofs.next_level.Reads as next-level-reads
+use Rattle.reaching.proofs.next_choice.Reads as next-choice-reads
 use Rattle.reaching.proofs.reach_next.Reads as reach-next-reads
+use Rattle.reaching.proofs.reached_choices.Reads as reached-choices-reads
 use Rattle.remembering.proofs.find.Reads as find-reads
 use Rattle.outcomes.proofs.finish.Reads as finish-reads
 use Rattle.outcomes.proofs.remember.Reads as remember-reads
@@ -327,22 +330,33 @@ enter-returns-2 t c =
     (v .ensures .0, strode-kept e (v .ensures .1) (c .before .before .before .before .before .before .before .before .before .before .remember .ensures (startOf (now (a .counts))) (good (now (a .rows)) (now (a .masks)) (now (a .coefs)) (now (a .counts)) (now (a .first)) (now (a .endrows)) (now (a .endmasks)) (now (a .endcoefs)) (now (a .endcounts)) (now (a .endfirst)) (a .wide) (a .plane) (a .n)) (λ i lt. starts-rise (now (a .counts)) i) (e .here .from) (e .here .to) (v .ensures .1 .memory) (kept-good e (v .ensures .1) (a .b) (a .t) _ (v .ensures .0))))
 
 abbrev visit-rs : ℕ → visit-lts.Claims
-visit-rs t = (stopped-reads.Asked, stopped-reads.Learnt, branch-below t, branch.Post)
+visit-rs t = (reached-choices-reads.Asked, reached-choices-reads.Learnt, next-choice-reads.Asked, next-choice-reads.Learnt, stopped-reads.Asked, stopped-reads.Learnt, branch-below t, branch.Post)
 
 -- ---- visit
 -- the members of the choices left come to those of all of them; the block is as it was, and each word so far was found from it if it is clean
 abbrev visit-Inv-loop : visit-lts.InvT-loop
-visit-Inv-loop n left at rows masks coefs counts first endrows endmasks endcoefs endcounts endfirst free may₀ met₀ stack₀ kept₀ hints₀ seen₀ sizes₀ turn₀ reached₀ wide plane room slots p b root level word so-far₀ clean₀ c₀ may met stack kept hints seen sizes turn reached so-far clean c =
+visit-Inv-loop n left at rows masks coefs counts first endrows endmasks endcoefs endcounts endfirst free may₀ met₀ stack₀ kept₀ hints₀ seen₀ sizes₀ turn₀ reached₀ wide plane room slots p b root level word shared so-far₀ clean₀ c₀ may met stack kept hints seen sizes turn reached so-far clean c =
     (length may ≡ length may₀) × (length met ≡ length met₀) × (length stack ≡ length stack₀) × (length kept ≡ length kept₀) × (length hints ≡ length hints₀) × (length seen ≡ length seen₀) × (length sizes ≡ length sizes₀) × (length turn ≡ length turn₀) × (length reached ≡ length reached₀)
     × Entered rows masks coefs counts first endrows endmasks endcoefs endcounts endfirst wide plane room slots n at left p level root word stack seen sizes hints kept (length free) (length may) (length met) (length turn) (length reached)
     × Strode rows masks coefs counts first endrows endmasks endcoefs endcounts endfirst wide plane room slots n at left p level reached₀ stack₀ 0 c clean reached stack seen sizes hints kept
     × (tallied (passesIn rows masks coefs first endrows endmasks endcoefs endcounts endfirst n) b so-far (flat (branchOf rows masks coefs first root word at left reached₀ (level .from) (level .to)) (upTo c (32 - c))) ≡ tallied (passesIn rows masks coefs first endrows endmasks endcoefs endcounts endfirst n) b so-far₀ (flat (branchOf rows masks coefs first root word at left reached₀ (level .from) (level .to)) choices))
 
 abbrev visit-μ-loop : visit-lts.MeasureT-loop
-visit-μ-loop n left at rows masks coefs counts first endrows endmasks endcoefs endcounts endfirst free may₀ met₀ stack₀ kept₀ hints₀ seen₀ sizes₀ turn₀ reached₀ wide plane room slots p b root level word so-far₀ clean₀ c₀ may met stack kept hints seen sizes turn reached so-far clean c = 32 - c
+visit-μ-loop n left at rows masks coefs counts first endrows endmasks endcoefs endcounts endfirst free may₀ met₀ stack₀ kept₀ hints₀ seen₀ sizes₀ turn₀ reached₀ wide plane room slots p b root level word shared so-far₀ clean₀ c₀ may met stack kept hints seen sizes turn reached so-far clean c = 32 - c
+
+visit-reached-choices-requires : (t : ℕ) → visit-lts.Need-reached-choices-requires (visit-rs t) (visit-at t) visit.Post visit-Inv-loop visit-μ-loop
+visit-reached-choices-requires t c κs = choices-asked (c .before .before .before .before .before .before .before .before .before .before .before .before .before .before .before .before .before .before .before .pre .1)
+
+visit-next-choice-requires : (t : ℕ) → visit-lts.Need-next-choice-requires (visit-rs t) (visit-at t) visit.Post visit-Inv-loop visit-μ-loop
+visit-next-choice-requires t c κs = omega arith
 
 visit-loop-holds : (t : ℕ) → visit-lts.Need-loop-holds (visit-rs t) (visit-at t) visit.Post visit-Inv-loop visit-μ-loop
-visit-loop-holds t c = let s = c .before .before .before .before .before .before .before .before .before .before .before .before .before .before .before .before .before .before in (refl, refl, refl, refl, refl, refl, refl, refl, refl, s .pre .1, strode-begin (s .pre .1) (now (s .args .reached)), refl)
+visit-loop-holds t c =
+    let s = c .before .before .before .before .before .before .before .before .before .before .before .before .before .before .before .before .before .before .before .before .before in
+    let a = s .args in
+    let is = c .before .reached-choices .ensures in
+    let next = c .next-choice .ensures in
+    (refl, refl, refl, refl, refl, refl, refl, refl, refl, s .pre .1, strode-skip (s .pre .1) is next (strode-begin (s .pre .1) (now (a .reached))), ap (tallied (passesIn (now (a .rows)) (now (a .masks)) (now (a .coefs)) (now (a .first)) (now (a .endrows)) (now (a .endmasks)) (now (a .endcoefs)) (now (a .endcounts)) (now (a .endfirst)) (a .n)) (a .b) (a .t)) (skip-members (now (a .rows)) (now (a .masks)) (now (a .coefs)) (now (a .first)) (now (a .reached)) (a .level .from) (a .level .to) (is) (next) (a .root) (a .word) (a .at) (a .left)))
 
 visit-stopped-requires : (t : ℕ) → visit-lts.Need-stopped-requires (visit-rs t) (visit-at t) visit.Post visit-Inv-loop visit-μ-loop
 visit-stopped-requires t c κs = search needs
@@ -377,7 +391,7 @@ visit-same-length-9 t c = c .before .before .before .loop .inv .8
 visit-returns : (t : ℕ) → visit-lts.Need-returns (visit-rs t) (visit-at t) visit.Post visit-Inv-loop visit-μ-loop
 visit-returns t c =
     let l = c .before .before .before .loop in
-    let s = c .before .before .before .before .before .before .before .before .before .before .before .before .before .before .before .before .before .before .before .before .before .before in
+    let s = c .before .before .before .before .before .before .before .before .before .before .before .before .before .before .before .before .before .before .before .before .before .before .before .before .before in
     let a = s .args in (
       sym (tally-halted (passesIn (now (a .rows)) (now (a .masks)) (now (a .coefs)) (now (a .first)) (now (a .endrows)) (now (a .endmasks)) (now (a .endcoefs)) (now (a .endcounts)) (now (a .endfirst)) (a .n)) (a .b) (l .so-far) (flat (branchOf (now (a .rows)) (now (a .masks)) (now (a .coefs)) (now (a .first)) (a .root) (a .word) (a .at) (a .left) (now (a .reached)) (a .level .from) (a .level .to)) (upTo (l .c) (32 - l .c))) (c .before .stopped .ensures (c .if1 .taken)))
           ∙ l .inv .11
@@ -386,19 +400,24 @@ visit-returns t c =
     )
 
 visit-branch-requires : (t : ℕ) → visit-lts.Need-branch-requires (visit-rs t) (visit-at t) visit.Post visit-Inv-loop visit-μ-loop
-visit-branch-requires t c κs = let s = c .before .before .before .before .before .before .before .before .before .before .before .before .before .before .before .before .before .before .before .before .before .before .before .before .before .before .before .before .before .before .before in (omega (arith, s .pre .0), (c .before .before .before .before .before .before .before .before .before .before .before .before .loop .inv .9, c .before .before .before .before .before .before .before .before .before .before .before .loop-test .taken))
+visit-branch-requires t c κs = let s = c .before .before .before .before .before .before .before .before .before .before .before .before .before .before .before .before .before .before .before .before .before .before .before .before .before .before .before .before .before .before .before .before .before .before in (omega (arith, s .pre .0), (c .before .before .before .before .before .before .before .before .before .before .before .before .loop .inv .9, c .before .before .before .before .before .before .before .before .before .before .before .loop-test .taken))
 
-visit-add-c : (t : ℕ) → visit-lts.Need-add-c (visit-rs t) (visit-at t) visit.Post visit-Inv-loop visit-μ-loop
-visit-add-c t c = omega (arith, c .before .before .before .before .before .before .before .before .before .before .before .before .before .before .before .before .before .before .before .before .before .before .before .before .before .before .before .before .before .before .before .before .loop-test .taken)
+visit-add-next-choice : (t : ℕ) → visit-lts.Need-add-next-choice (visit-rs t) (visit-at t) visit.Post visit-Inv-loop visit-μ-loop
+visit-add-next-choice t c = omega (arith, c .before .before .before .before .before .before .before .before .before .before .before .before .before .before .before .before .before .before .before .before .before .before .before .before .before .before .before .before .before .before .before .before .loop-test .taken)
+
+visit-next-choice-requires-2 : (t : ℕ) → visit-lts.Need-next-choice-requires-2 (visit-rs t) (visit-at t) visit.Post visit-Inv-loop visit-μ-loop
+visit-next-choice-requires-2 t c κs = omega (arith, c .before .before .before .before .before .before .before .before .before .before .before .before .before .before .before .before .before .before .before .before .before .before .before .before .before .before .before .before .before .before .before .before .loop-test .taken)
 
 visit-loop-less : (t : ℕ) → visit-lts.Need-loop-less (visit-rs t) (visit-at t) visit.Post visit-Inv-loop visit-μ-loop
-visit-loop-less t c = omega (arith, c .before .before .before .before .before .before .before .before .before .before .before .before .before .before .before .before .before .before .before .before .before .before .before .before .before .before .before .before .before .before .before .before .loop-test .taken)
+visit-loop-less t c = omega (arith, c .next-choice2 .ensures .after, c .before .before .before .before .before .before .before .before .before .before .before .before .before .before .before .before .before .before .before .before .before .before .before .before .before .before .before .before .before .before .before .before .before .loop-test .taken)
 
 visit-loop-again : (t : ℕ) → visit-lts.Need-loop-again (visit-rs t) (visit-at t) visit.Post visit-Inv-loop visit-μ-loop
 visit-loop-again t c =
-    let k = c .before .before .before .before .before .before .before .before .before .before .before .before .before .before .before .before .before .before .before .before .branch in
-    let l = c .before .before .before .before .before .before .before .before .before .before .before .before .before .before .before .before .before .before .before .before .before .before .before .before .before .before .before .before .before .before .before .before .before .loop in
-    let s = c .before .before .before .before .before .before .before .before .before .before .before .before .before .before .before .before .before .before .before .before .before .before .before .before .before .before .before .before .before .before .before .before .before .before .before .before .before .before .before .before .before .before .before .before .before .before .before .before .before .before .before .before in
+    let k = c .before .before .before .before .before .before .before .before .before .before .before .before .before .before .before .before .before .before .before .before .before .branch in
+    let l = c .before .before .before .before .before .before .before .before .before .before .before .before .before .before .before .before .before .before .before .before .before .before .before .before .before .before .before .before .before .before .before .before .before .before .loop in
+    let s = c .before .before .before .before .before .before .before .before .before .before .before .before .before .before .before .before .before .before .before .before .before .before .before .before .before .before .before .before .before .before .before .before .before .before .before .before .before .before .before .before .before .before .before .before .before .before .before .before .before .before .before .before .before .before .before .before in
+    let is = c .before .before .before .before .before .before .before .before .before .before .before .before .before .before .before .before .before .before .before .before .before .before .before .before .before .before .before .before .before .before .before .before .before .before .before .before .reached-choices .ensures in
+    let next = c .next-choice2 .ensures in
     let a = s .args in (
       (k .kept .1 .1 .1 .1 .1 .1 .1 .1 .1 .1 .1 .1 .1 .1 .0) ∙ l .inv .0,
       (k .kept .1 .1 .1 .1 .1 .1 .1 .1 .1 .1 .1 .1 .1 .1 .1 .0) ∙ l .inv .1,
@@ -410,10 +429,11 @@ visit-loop-again t c =
       (k .kept .1 .1 .1 .1 .1 .1 .1 .1 .1 .1 .1 .1 .1 .1 .1 .1 .1 .1 .1 .1 .1 .0) ∙ l .inv .7,
       (k .kept .1 .1 .1 .1 .1 .1 .1 .1 .1 .1 .1 .1 .1 .1 .1 .1 .1 .1 .1 .1 .1 .1 .0) ∙ l .inv .8,
       entered-again (l .inv .9) (k .ensures .1 .marks) (k .ensures .1 .memory) (k .kept .1 .1 .1 .1 .1 .1 .1 .1 .1 .1 .1 .1 .1 .1 .1 .1 .0) (k .kept .1 .1 .1 .1 .1 .1 .1 .1 .1 .1 .1 .1 .1 .1 .1 .1 .1 .1 .1 .0) (k .kept .1 .1 .1 .1 .1 .1 .1 .1 .1 .1 .1 .1 .1 .1 .1 .1 .1 .1 .1 .1 .0) (k .kept .1 .1 .1 .1 .1 .1 .1 .1 .1 .1 .1 .1 .1 .1 .1 .1 .1 .1 .0) (k .kept .1 .1 .1 .1 .1 .1 .1 .1 .1 .1 .1 .1 .1 .1 .1 .1 .1 .0) (k .kept .1 .1 .1 .1 .1 .1 .1 .1 .1 .1 .1 .1 .1 .1 .0) (k .kept .1 .1 .1 .1 .1 .1 .1 .1 .1 .1 .1 .1 .1 .1 .1 .0) (k .kept .1 .1 .1 .1 .1 .1 .1 .1 .1 .1 .1 .1 .1 .1 .1 .1 .1 .1 .1 .1 .1 .0) (k .kept .1 .1 .1 .1 .1 .1 .1 .1 .1 .1 .1 .1 .1 .1 .1 .1 .1 .1 .1 .1 .1 .1 .0),
-      strode-turn (s .pre .1) (l .inv .10) (k .ensures .1),
-      ap (λ (u : Tally). tallied (passesIn (now (a .rows)) (now (a .masks)) (now (a .coefs)) (now (a .first)) (now (a .endrows)) (now (a .endmasks)) (now (a .endcoefs)) (now (a .endcounts)) (now (a .endfirst)) (a .n)) (a .b) u (flat (branchOf (now (a .rows)) (now (a .masks)) (now (a .coefs)) (now (a .first)) (a .root) (a .word) (a .at) (a .left) (now (a .reached)) (a .level .from) (a .level .to)) (upTo (l .c + 1) (32 - (l .c + 1)))))
+      strode-skip (s .pre .1) is next (strode-turn (s .pre .1) (l .inv .10) (k .ensures .1)),
+      ap (tallied (passesIn (now (a .rows)) (now (a .masks)) (now (a .coefs)) (now (a .first)) (now (a .endrows)) (now (a .endmasks)) (now (a .endcoefs)) (now (a .endcounts)) (now (a .endfirst)) (a .n)) (a .b) _) (skip-members (now (a .rows)) (now (a .masks)) (now (a .coefs)) (now (a .first)) (now (a .reached)) (a .level .from) (a .level .to) (is) (next) (a .root) (a .word) (a .at) (a .left))
+          ∙ ap (λ (u : Tally). tallied (passesIn (now (a .rows)) (now (a .masks)) (now (a .coefs)) (now (a .first)) (now (a .endrows)) (now (a .endmasks)) (now (a .endcoefs)) (now (a .endcounts)) (now (a .endfirst)) (a .n)) (a .b) u (flat (branchOf (now (a .rows)) (now (a .masks)) (now (a .coefs)) (now (a .first)) (a .root) (a .word) (a .at) (a .left) (now (a .reached)) (a .level .from) (a .level .to)) (upTo (l .c + 1) (32 - (l .c + 1)))))
           (k .ensures .0 ∙ ap (tallied (passesIn (now (a .rows)) (now (a .masks)) (now (a .coefs)) (now (a .first)) (now (a .endrows)) (now (a .endmasks)) (now (a .endcoefs)) (now (a .endcounts)) (now (a .endfirst)) (a .n)) (a .b) (l .so-far)) (branch-same (now (a .rows)) (now (a .masks)) (now (a .coefs)) (now (a .first)) (a .root) (a .word) (a .at) (a .left) (a .level .from) (l .c) (l .inv .10 .reached)))
-          ∙ turn-on (passesIn (now (a .rows)) (now (a .masks)) (now (a .coefs)) (now (a .first)) (now (a .endrows)) (now (a .endmasks)) (now (a .endcoefs)) (now (a .endcounts)) (now (a .endfirst)) (a .n)) (a .b) (branchOf (now (a .rows)) (now (a .masks)) (now (a .coefs)) (now (a .first)) (a .root) (a .word) (a .at) (a .left) (now (a .reached)) (a .level .from) (a .level .to)) 32 (l .so-far) (l .c) (c .before .before .before .before .before .before .before .before .before .before .before .before .before .before .before .before .before .before .before .before .before .before .before .before .before .before .before .before .before .before .before .before .loop-test .taken)
+          ∙ turn-on (passesIn (now (a .rows)) (now (a .masks)) (now (a .coefs)) (now (a .first)) (now (a .endrows)) (now (a .endmasks)) (now (a .endcoefs)) (now (a .endcounts)) (now (a .endfirst)) (a .n)) (a .b) (branchOf (now (a .rows)) (now (a .masks)) (now (a .coefs)) (now (a .first)) (a .root) (a .word) (a .at) (a .left) (now (a .reached)) (a .level .from) (a .level .to)) 32 (l .so-far) (l .c) (c .before .before .before .before .before .before .before .before .before .before .before .before .before .before .before .before .before .before .before .before .before .before .before .before .before .before .before .before .before .before .before .before .before .loop-test .taken)
           ∙ l .inv .11,
     )
 
@@ -447,7 +467,7 @@ visit-same-length-18 t c = c .before .loop .inv .8
 visit-returns-2 : (t : ℕ) → visit-lts.Need-returns-2 (visit-rs t) (visit-at t) visit.Post visit-Inv-loop visit-μ-loop
 visit-returns-2 t c =
     let l = c .before .loop in
-    let s = c .before .before .before .before .before .before .before .before .before .before .before .before .before .before .before .before .before .before .before .before in
+    let s = c .before .before .before .before .before .before .before .before .before .before .before .before .before .before .before .before .before .before .before .before .before .before .before in
     let a = s .args in (
       turn-end (passesIn (now (a .rows)) (now (a .masks)) (now (a .coefs)) (now (a .first)) (now (a .endrows)) (now (a .endmasks)) (now (a .endcoefs)) (now (a .endcounts)) (now (a .endfirst)) (a .n)) (a .b) (branchOf (now (a .rows)) (now (a .masks)) (now (a .coefs)) (now (a .first)) (a .root) (a .word) (a .at) (a .left) (now (a .reached)) (a .level .from) (a .level .to)) 32 (l .so-far) (l .c) (c .loop-test .left)
           ∙ l .inv .11
@@ -528,6 +548,8 @@ pub +branch+descend+enter+visit-spec : {M : Type 1} → statement M
     visit.Post
     visit-Inv-loop
     visit-μ-loop
+    (visit-reached-choices-requires t)
+    (visit-next-choice-requires t)
     (visit-loop-holds t)
     (visit-stopped-requires t)
     (visit-same-length t)
@@ -541,7 +563,8 @@ pub +branch+descend+enter+visit-spec : {M : Type 1} → statement M
     (visit-same-length-9 t)
     (visit-returns t)
     (visit-branch-requires t)
-    (visit-add-c t)
+    (visit-add-next-choice t)
+    (visit-next-choice-requires-2 t)
     (visit-loop-less t)
     (visit-loop-again t)
     (visit-same-length-10 t)
