@@ -1,9 +1,9 @@
 #!/usr/bin/env bash
 # The one-gate entry of the C library gives every reply and every byte that tests/reference computes apart, and the example runs.
-# usage: tests/gates.sh [ARCHIVE]     without ARCHIVE the library is proved and built first
+# usage: tests/gates.sh [ARCHIVE]     without ARCHIVE, also as a variable, the library is proved and built first
 set -eu
 cd "$(dirname "$0")/.."
-archive=${1:-}
+archive=${1:-${ARCHIVE:-}}
 if [ -z "$archive" ]; then
   archive=target/staticlib/librelease.a
   rm -f "$archive"

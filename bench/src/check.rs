@@ -1,7 +1,7 @@
-//! Times the check on large families of jobs, and on small random ones, by the proved library, by a walk that remembers in Rust, and member by member in
-//! Rust. All replies are compared with the expected lines before anything is timed.
+//! Times the check on large families of jobs, and on small random ones, by the proved library, by the program as a process of its own, by a walk that
+//! remembers in Rust, and member by member in Rust. All replies are compared with the expected lines before anything is timed.
 //!
-//! usage: check FAMILIES RANDOM     two directories that tests/reference/families.py wrote
+//! usage: check PROGRAM FAMILIES RANDOM     the program, and two directories that tests/reference/families.py wrote
 use bench::gates::Refusal;
 use bench::jobs::{image_and_end, line, line_of_reply, Job, Verdict};
 use bench::tables::Tables;
@@ -80,9 +80,19 @@ fn jobs_of(directory: &str) -> Vec<Named> {
     jobs
 }
 
-// ---- three ways from bytes to a reply
+// ---- the ways from bytes to a reply
 fn by_library(job: &Job) -> [u8; 64] {
     library::check(&job.start, &job.circuit, &job.end, job.allowance)
+}
+
+/// The program from its start to its end, with the job as its input: the line that it prints.
+fn by_program(program: &str, path: &Path) -> String {
+    let input = std::fs::File::open(path).unwrap();
+    let output = Command::new(program).stdin(input).output().unwrap();
+    String::from_utf8(output.stdout)
+        .unwrap()
+        .trim_end()
+        .to_string()
 }
 
 fn by_walk(job: &Job) -> Result<Verdict, Refusal> {
@@ -202,12 +212,12 @@ fn columns(times: &[Option<(Duration, Duration)>]) -> String {
 
 fn heading(first: &str) {
     println!(
-        "{first} {:>23} {:>23} {:>23}",
-        "library", "Rust, remembering", "Rust, by members"
+        "{first} {:>23} {:>23} {:>23} {:>23}",
+        "library", "program, whole run", "Rust, remembering", "Rust, by members"
     );
 }
 
-fn families(jobs: &[Named]) {
+fn families(program: &str, jobs: &[Named]) {
     for job in jobs {
         same("Rust, remembering", job, &line(&by_walk(&job.job)));
     }
@@ -225,14 +235,17 @@ fn families(jobs: &[Named]) {
             line_by_library_alone(&job.path),
             by_members(&job.job, LIMIT),
         );
-        one.iter().for_each(|got| same("library", job, got));
+        one.iter().for_each(|got| {
+            same("library", job, got);
+            same("program", job, &by_program(program, &job.path));
+        });
         other
             .iter()
             .for_each(|got| same("Rust, by members", job, &line(got)));
         ended.push((one.is_some(), other.is_some()));
     }
     println!(
-        "of the {} that are timed: the expected line from the library for {}, from Rust by members for {}; the others take over {} s",
+        "of the {} that are timed: the expected line from the library and the program for {}, from Rust by members for {}; the others take over {} s",
         asked.len(),
         ended.iter().filter(|e| e.0).count(),
         ended.iter().filter(|e| e.1).count(),
@@ -243,6 +256,7 @@ fn families(jobs: &[Named]) {
     for (job, (one, other)) in asked.iter().zip(ended) {
         let times = timed(&[
             one.then(|| Box::new(|| done(by_library(&job.job))) as Box<dyn Fn()>),
+            one.then(|| Box::new(|| done(by_program(program, &job.path))) as Box<dyn Fn()>),
             Some(Box::new(|| done(by_walk(&job.job)))),
             other.then(|| Box::new(|| done(by_members_whole(&job.job))) as Box<dyn Fn()>),
         ]);
@@ -257,14 +271,15 @@ fn families(jobs: &[Named]) {
     }
 }
 
-fn random(jobs: &[Named]) {
+fn random(program: &str, jobs: &[Named]) {
     for job in jobs {
         same("library", job, &line_by_library(&job.job));
+        same("program", job, &by_program(program, &job.path));
         same("Rust, remembering", job, &line(&by_walk(&job.job)));
         same("Rust, by members", job, &line(&by_members_whole(&job.job)));
     }
     println!(
-        "{} small random jobs: the expected line from all three",
+        "{} small random jobs: the expected line from all four",
         jobs.len()
     );
     println!("time of all of them in µs, {ROUNDS} rounds in turn: least, median");
@@ -272,6 +287,9 @@ fn random(jobs: &[Named]) {
     let times = timed(&[
         Some(Box::new(|| {
             jobs.iter().for_each(|j| done(by_library(&j.job)))
+        })),
+        Some(Box::new(|| {
+            jobs.iter().for_each(|j| done(by_program(program, &j.path)))
         })),
         Some(Box::new(|| jobs.iter().for_each(|j| done(by_walk(&j.job))))),
         Some(Box::new(|| {
@@ -285,10 +303,10 @@ fn main() {
     let args: Vec<String> = std::env::args().skip(1).collect();
     match args.iter().map(String::as_str).collect::<Vec<_>>()[..] {
         [ALONE, path] => println!("{}", line_by_library(&read(path.into()).job)),
-        [one, other] => {
-            families(&jobs_of(one));
-            random(&jobs_of(other));
+        [program, one, other] => {
+            families(program, &jobs_of(one));
+            random(program, &jobs_of(other));
         }
-        _ => panic!("usage: check FAMILIES RANDOM"),
+        _ => panic!("usage: check PROGRAM FAMILIES RANDOM"),
     }
 }

@@ -1,6 +1,6 @@
 -- A clean block: each word that goes on from it is found from it. Choice after choice, and one level down; what is remembered of it, and that on
 -- the walk's way its members pass. Assumes nothing.
-use mathlib.Core.Path.{_≡_, refl, sym, ap, ap₂, _∙_, subst}
+use mathlib.Core.Path.{_≡_, refl, sym, ap, ap₂, _∙_}
 use mathlib.Core.Bool.{Bool, true, false, _&&_, false≢true}
 use mathlib.Core.List.{List, [], _∷_}
 use Prim.Native.Nat.{ℕ, zero, suc, _+_, _-_, _*_, _<_, _≤_}
@@ -14,8 +14,6 @@ use lib.Seq.{getD-set-other}
 use borrow.Author.Tests.{eqb-true, eq-eqb}
 use Rattle.amplitude.proofs.Equal.{both}
 use Rattle.automata.specs.Choice.{choicesMost}
-use Rattle.automata.specs.Tree.{Automaton}
-use Rattle.automata.specs.Members.{Member, member}
 use Rattle.jobs.specs.Reply.{wordPlaces}
 use Rattle.lookup.specs.Lookup.{transitionRow, isSome}
 use Rattle.lookup.specs.Alts.{tableAutomaton}
@@ -24,15 +22,14 @@ use Rattle.matching.specs.Levels.{IsLevel}
 use Rattle.matching.specs.Seeking.{wordFrom}
 use Rattle.reaching.specs.Reached.{allReached, kidsIn, hasChoice, Kept, Gone}
 use Rattle.relating.specs.Found.{found}
-use Rattle.relating.specs.Roots.{Whole}
-use Rattle.filling.specs.Fill.{Low, Filled}
+use Rattle.batching.specs.Fill.{Low, Filled}
 use Rattle.remembering.specs.Memory.{Same}
-use Rattle.walking.specs.Walk.{membersBy, filled, treesBy, visitOf, passesIn}
+use Rattle.walking.specs.Walk.{filled, treesBy, visitOf, passesIn}
 use Rattle.walking.proofs.Branches.{same-members, trees-down, last-trees}
 use Rattle.walking.proofs.Rooms.{zeros-small}
 use Rattle.walking.proofs.Skips.{trees-lack}
-use Rattle.blocks.specs.Good.{allOf, levelOf, foundIn, good, Clean, OnPath}
-use Rattle.blocks.proofs.Words.{Spelt, spelt-from, members-is, members-tell, members-long, fill-long, fill-low, fill-small, fill-read}
+use Rattle.blocks.specs.Good.{allOf, foundIn, good, Clean, OnPath}
+use Rattle.blocks.proofs.Words.{spelt-from, members-is, members-tell, members-long, fill-long, fill-low, fill-small, fill-read}
 use Rattle.blocks.proofs.Founds.{found-words, found-low, found-block, trees-kept, trees-block}
 use Rattle.blocks.proofs.Levels.{level-is}
 

@@ -12,7 +12,7 @@ use Rattle.automata.specs.Members.{Member, member}
 use Rattle.walking.specs.declared.Tally.{Tally}
 use Rattle.walking.specs.declared.Kind.{Kind}
 use Rattle.walking.specs.declared.Kind.the-variants.{Going, Failed, Undecided}
-use Rattle.walking.specs.Tallied.{tickBy, tickOf, tallied, Halted}
+use Rattle.walking.specs.Tallied.{tickOf, tallied, Halted}
 use Rattle.walking.proofs.TallyLaws.{tally-halted, tick-used, tick-passed, tick-missed}
 use Rattle.blocks.specs.Good.{allOf}
 

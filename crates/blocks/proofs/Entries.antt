@@ -1,13 +1,13 @@
 -- What the walk asks at a block holds from choice to choice and from level to level. Assumes nothing.
-use mathlib.Core.Path.{_≡_, refl, sym, ap, _∙_, subst}
-use mathlib.Core.Bool.{Bool, true}
+use mathlib.Core.Path.{_≡_, refl, sym, ap, _∙_}
+use mathlib.Core.Bool.{true}
 use mathlib.Core.List.{List}
 use Prim.Native.Nat.{ℕ, zero, suc, _+_, _-_, _*_, _<_, _≤_}
 use native.Mathlib.Nat.{mul-le-mul-right}
 use native.Mathlib.Numerals.{add-one}
 use native.Mathlib.Omega.{arith}
 use lib.IntN.{ℤ}
-use lib.ListN.{length, getD, set, length-set}
+use lib.ListN.{length, getD, set}
 use Rattle.automata.specs.Choice.{choicesMost}
 use Rattle.automata.specs.Members.{member}
 use Rattle.jobs.specs.Reply.{wordPlaces}
@@ -20,12 +20,12 @@ use Rattle.matching.proofs.LevelLaws.{start-next}
 use Rattle.matching.proofs.Turns.{one-less, leaf-stage, stage as pair-stage}
 use Rattle.reaching.specs.Reached.{Stage, Ended}
 use Rattle.relating.specs.Found.{found}
-use Rattle.filling.specs.Fill.{Ground, Low, Filled}
+use Rattle.batching.specs.Fill.{Ground, Low, Filled}
 use Rattle.remembering.specs.Fits.{Fits}
 use Rattle.remembering.specs.Memory.{Memory}
-use Rattle.walking.specs.Walk.{passesIn, Both, Visiting}
+use Rattle.walking.specs.Walk.{passesIn}
 use Rattle.walking.proofs.Rooms.{start-up, small-set, both-again, few-levels, at-few, lent, visit-again, leaves-there, states-there, level-celled, stage as reach-stage}
-use Rattle.blocks.specs.Good.{good, Clean, OnPath}
+use Rattle.blocks.specs.Good.{good}
 use Rattle.blocks.specs.Block.{rowCells, Sized, Entered, Ending}
 use Rattle.blocks.proofs.Blocks.{path-kept, path-down, path-set}
 
@@ -35,6 +35,11 @@ some-less (suc m) h = omega arith
 
 pub starts-rise : (counts : List ℕ) (i : ℕ) → startOf counts i ≤ startOf counts (suc i)
 starts-rise counts i = omega (arith, start-next counts i)
+
+-- the same with buffers as long
+pub sized-again : {counts : List ℕ} {n wide plane room slots free met stack kept hints seen sizes turn met′ stack′ kept′ hints′ seen′ sizes′ turn′ : ℕ} → met′ ≡ met → stack′ ≡ stack → kept′ ≡ kept → hints′ ≡ hints → seen′ ≡ seen → sizes′ ≡ sizes → turn′ ≡ turn
+    → Sized counts n wide plane room slots free met stack kept hints seen sizes turn → Sized counts n wide plane room slots free met′ stack′ kept′ hints′ seen′ sizes′ turn′
+sized-again e₁ e₂ e₃ e₄ e₅ e₆ e₇ s = rw (e₁, e₂, e₃, e₄, e₅, e₆, e₇) s
 
 module _ {rows masks : List ℕ} {coefs : List ℤ} {counts first endRows endMasks : List ℕ} {endCoefs : List ℤ} {endCounts endFirst : List ℕ} {wide plane room slots n at m p : ℕ} {l : Level} {root : ℕ} {word stack seen sizes hints kept : List ℕ} {free may met turn cells : ℕ}
     (t : Entered rows masks coefs counts first endRows endMasks endCoefs endCounts endFirst wide plane room slots n at m p l root word stack seen sizes hints kept free may met turn cells) where
@@ -101,22 +106,10 @@ module _ {rows masks : List ℕ} {coefs : List ℤ} {counts first endRows endMas
       → may′ ≡ may → met′ ≡ met → turn′ ≡ turn → cells′ ≡ cells
       → Entered rows masks coefs counts first endRows endMasks endCoefs endCounts endFirst wide plane room slots n at m p l root word stack′ seen′ sizes′ hints′ kept′ free may′ met′ turn′ cells′
   entered-again low memory e₁ e₂ e₃ e₄ e₅ e₆ e₇ e₈ e₉ =
-      let s = t .sized in
       record {
-        visiting = visit-again (t .visiting) e₆ e₇ e₉;
+        visiting = visit-again (t .visiting) e₆ e₉;
         here = t .here;
-        sized = record {
-          long = s .long;
-          spare = omega (arith, s .spare);
-          hinted = s .hinted;
-          planes = omega (arith, s .planes);
-          short = s .short;
-          inKept = omega (arith, s .inKept);
-          inHints = omega (arith, s .inHints);
-          inSeen = omega (arith, s .inSeen);
-          inSizes = omega (arith, s .inSizes);
-          turns = omega (arith, s .turns);
-        };
+        sized = sized-again e₇ e₁ e₅ e₄ e₂ e₃ e₈ (t .sized);
         few = t .few;
         path = path-kept (t .path) level-narrow level-long low;
         memory = memory;
@@ -128,13 +121,14 @@ module _ {rows masks : List ℕ} {coefs : List ℤ} {counts first endRows endMas
       let whole : Lent rows masks coefs counts first endRows endMasks endCoefs endCounts endFirst word wide plane n = lent (t .visiting .both) word long (t .visiting .small) (t .sized .long) in
       record { lent = rw (t .visiting .levels) whole; here = t .here }
 
-  pub ending : (c : ℕ) → m ≡ 0 → c < choicesMost → getD word at 0 ≡ c → length word ≡ wordPlaces → Ending rows masks coefs counts first endRows endMasks endCoefs endCounts endFirst wide plane n p l root word stack may met cells c
+  pub ending : (c : ℕ) → m ≡ 0 → c < choicesMost → getD word at 0 ≡ c → length word ≡ wordPlaces → Ending rows masks coefs counts first endRows endMasks endCoefs endCounts endFirst wide plane room n p l root word stack may met cells c
   ending c z lt letter long =
       let v = t .visiting in
       let same : at ≡ n = omega (arith, v .levels) in
       record {
-        lent = lent (v .both) word long (v .small) (v .both .long);
+        lent = lent (v .both) word long (v .small) (t .sized .long);
         hinted = lent (v .both) word long (v .small) (v .both .hinted);
+        space = record { some = t .sized .some; few = omega arith; high = t .sized .batches; long = t .sized .flat };
         rooted = v .rooted;
         leaves = leaves-there v z;
         celled = level-celled v;
@@ -177,8 +171,8 @@ module _ {rows masks : List ℕ} {coefs : List ℤ} {counts first endRows endMas
       pub reach-asked : Stage rows masks first cells (l .from) (l .to) (next .to)
       reach-asked = reach-stage (t .visiting) some next-to
 
-      pub fill-asked : length word ≡ wordPlaces → Ground rows masks first endRows endMasks endFirst wide plane free met l next
-      fill-asked long =
+      pub batch-asked : length word ≡ wordPlaces → Ground rows masks first endRows endMasks endFirst wide plane free met l next
+      batch-asked long =
           let more = one-less m some in
           let s : Seeking rows masks coefs counts first endRows endMasks endCoefs endCounts endFirst word wide plane at (suc (m - 1)) l = rw more (seeking long) in
           record { stage = pair-stage (m - 1) s is; levels = level-rises; fits = omega (arith, mul-le-mul-right wide next-last, t .sized .hinted); long = t .sized .spare }
@@ -188,10 +182,9 @@ module _ {rows masks : List ℕ} {coefs : List ℤ} {counts first endRows endMas
           → Entered rows masks coefs counts first endRows endMasks endCoefs endCounts endFirst wide plane room slots n (at + 1) (m - 1) q next root word stack′ seen sizes hints kept free may met′ turn cells′
       entered-down letter f e₁ e₂ e₃ =
           let v = t .visiting in
-          let s = t .sized in
           record {
             visiting = record {
-              both = both-again (v .both) refl e₂ e₃;
+              both = both-again (v .both) refl e₃;
               levels = omega (arith, v .levels, less);
               begins = is .from;
               stops = is .to;
@@ -199,26 +192,15 @@ module _ {rows masks : List ℕ} {coefs : List ℤ} {counts first endRows endMas
               small = v .small;
             };
             here = is;
-            sized = record {
-              long = s .long;
-              spare = omega (arith, s .spare);
-              hinted = s .hinted;
-              planes = omega (arith, s .planes);
-              short = s .short;
-              inKept = s .inKept;
-              inHints = s .inHints;
-              inSeen = s .inSeen;
-              inSizes = s .inSizes;
-              turns = s .turns;
-            };
+            sized = sized-again e₂ e₁ refl refl refl refl refl (t .sized);
             few = f .few;
             path = path-down m some (t .path) letter f;
             memory = t .memory;
           }
 
 -- a word that ends here passes if it is found
-pub ending-passes : {rows masks : List ℕ} {coefs : List ℤ} {counts first endRows endMasks : List ℕ} {endCoefs : List ℤ} {endCounts endFirst : List ℕ} {wide plane n p : ℕ} {l : Level} {root : ℕ} {word stack : List ℕ} {may met cells c : ℕ}
-    → Ending rows masks coefs counts first endRows endMasks endCoefs endCounts endFirst wide plane n p l root word stack may met cells c
+pub ending-passes : {rows masks : List ℕ} {coefs : List ℤ} {counts first endRows endMasks : List ℕ} {endCoefs : List ℤ} {endCounts endFirst : List ℕ} {wide plane room n p : ℕ} {l : Level} {root : ℕ} {word stack : List ℕ} {may met cells c : ℕ}
+    → Ending rows masks coefs counts first endRows endMasks endCoefs endCounts endFirst wide plane room n p l root word stack may met cells c
     → found (tableAutomaton rows masks coefs first) (tableAutomaton endRows endMasks endCoefs endFirst) word n 0 wide plane stack p l ≡ true
     → passesIn rows masks coefs first endRows endMasks endCoefs endCounts endFirst n (member root word) ≡ true
 ending-passes {word = word} t f = t .path .each word (record { letters = t .lent .letters; small = t .lent .small }) (λ i lt. refl) f

@@ -6,7 +6,6 @@ use Prim.Native.Nat.{ℕ, zero, suc, _+_, _*_, _<_, _≤_}
 use native.Mathlib.Omega.{arith}
 use lib.Dec.{eqb}
 use lib.IntN.{ℤ}
-use lib.ListN.{getD}
 use Rattle.automata.specs.Members.{upTo}
 use Rattle.automata.specs.Tree.{Automaton, treeOf}
 use Rattle.verdict.specs.Search.{fitsOne}
@@ -21,8 +20,8 @@ use Rattle.reaching.specs.Reached.{isReached, Kept}
 use Rattle.reaching.proofs.ReachLaws.{reached-same}
 use Rattle.relating.specs.Found.{planeOf, anyBelow, found}
 use Rattle.relating.proofs.Cells.{plane-cell, same-cells, sought-same}
-use Rattle.filling.specs.Fill.{Low}
-use Rattle.filling.proofs.Grows.{low-marks}
+use Rattle.batching.specs.Fill.{Low}
+use Rattle.batching.proofs.Grows.{low-marks}
 use Rattle.remembering.specs.Memory.{Same as SameBlock}
 use Rattle.walking.specs.Walk.{treesBy}
 

@@ -1,9 +1,9 @@
 -- The level that a walk carries is the one that the counts tell. Assumes nothing.
-use mathlib.Core.Path.{_≡_, refl, _∙_}
+use mathlib.Core.Path.{_≡_, refl}
 use mathlib.Core.List.{List}
-use Prim.Native.Nat.{ℕ, suc}
+use Prim.Native.Nat.{ℕ}
 use Rattle.meeting.specs.declared.Level.{Level}
-use Rattle.matching.specs.Levels.{startOf, IsLevel}
+use Rattle.matching.specs.Levels.{IsLevel}
 use Rattle.blocks.specs.Good.{levelOf}
 
 pub level-is : {counts endCounts : List ℕ} {at : ℕ} {l : Level} → IsLevel counts endCounts at l → l ≡ levelOf counts endCounts at

@@ -1,8 +1,8 @@
 -- The walk at a root: its block is the root and relations to end roots, and what is found from it passes. Assumes nothing.
-use mathlib.Core.Path.{_≡_, refl, sym, ap, _∙_}
+use mathlib.Core.Path.{_≡_, refl}
 use mathlib.Core.Bool.{true}
 use mathlib.Core.List.{List}
-use Prim.Native.Nat.{ℕ, suc, _+_, _*_, _<_, _≤_}
+use Prim.Native.Nat.{ℕ, suc, _+_, _<_, _≤_}
 use native.Mathlib.Nat.{mul-le-mul-right}
 use native.Mathlib.Omega.{arith}
 use lib.IntN.{ℤ}
@@ -11,19 +11,16 @@ use Rattle.automata.specs.Tree.{Automaton}
 use Rattle.verdict.specs.Search.{searched}
 use Rattle.jobs.specs.Reply.{wordPlaces}
 use Rattle.lookup.specs.Alts.{tableAutomaton}
-use Rattle.meeting.specs.declared.Level.{Level}
 use Rattle.matching.specs.Levels.{startOf}
 use Rattle.matching.proofs.LevelLaws.{start-zero, start-next}
+use Rattle.matching.proofs.Roots.{rootLevel, root-level}
 use Rattle.relating.specs.Found.{found}
 use Rattle.relating.specs.Roots.{Rooted, Whole}
 use Rattle.remembering.specs.Memory.{Memory}
 use Rattle.walking.proofs.Rooms.{start-up, both-again, visit-begins}
 use Rattle.blocks.specs.Good.{good}
-use Rattle.blocks.specs.Block.{rowCells, Sized, Started, Entered}
-
--- the first level's states
-abbrev pub firstLevel : List ℕ → List ℕ → Level
-firstLevel counts endCounts = record { from = 0; to = getD counts 0 0; start = 0; stop = getD endCounts 0 0 }
+use Rattle.blocks.specs.Block.{rowCells, Started, Entered}
+use Rattle.blocks.proofs.Entries.{sized-again}
 
 roots-are : (cs : List ℕ) → getD cs 0 0 ≡ startOf cs 1
 roots-are cs = omega (arith, start-zero cs, start-next cs 0)
@@ -36,21 +33,9 @@ module _ {rows masks : List ℕ} {coefs : List ℤ} {counts first endRows endMas
       → may′ ≡ may → met′ ≡ met → stack′ ≡ stack → length kept′ ≡ length kept → length hints′ ≡ length hints → length seen′ ≡ length seen → length sizes′ ≡ length sizes → turn′ ≡ turn → cells′ ≡ cells
       → Started rows masks coefs counts first endRows endMasks endCoefs endCounts endFirst wide plane room slots n seen′ sizes′ hints′ kept′ free may′ met′ stack′ turn′ cells′
   started-again memory e₁ e₂ e₃ e₄ e₅ e₆ e₇ e₈ e₉ =
-      let s = g .sized in
       record {
-        both = both-again (g .both) e₁ e₂ e₉;
-        sized = record {
-          long = s .long;
-          spare = omega (arith, s .spare);
-          hinted = s .hinted;
-          planes = omega (arith, s .planes);
-          short = s .short;
-          inKept = omega (arith, s .inKept);
-          inHints = omega (arith, s .inHints);
-          inSeen = omega (arith, s .inSeen);
-          inSizes = omega (arith, s .inSizes);
-          turns = omega (arith, s .turns);
-        };
+        both = both-again (g .both) e₁ e₉;
+        sized = sized-again e₂ e₃ e₄ e₅ e₆ e₇ e₈ (g .sized);
         memory = memory;
       }
 
@@ -58,7 +43,7 @@ module _ {rows masks : List ℕ} {coefs : List ℤ} {counts first endRows endMas
     roots-within : getD counts 0 0 ≤ startOf counts (suc n)
     roots-within = omega (arith, roots-are counts, start-up counts 1 (suc n) (omega arith))
 
-    pub begin-asked : Rooted plane wide free root (firstLevel counts endCounts)
+    pub begin-asked : Rooted plane wide free root (rootLevel counts endCounts)
     begin-asked = record {
       after = omega arith;
       before = lt;
@@ -67,27 +52,15 @@ module _ {rows masks : List ℕ} {coefs : List ℤ} {counts first endRows endMas
       narrow = omega (arith, roots-are endCounts, start-up endCounts 1 (suc n) (omega arith), g .both .narrow);
     }
 
-    pub entered-first : {p : ℕ} {stack′ : List ℕ} {cells′ : ℕ} → p ≤ room
-        → ((S E : Automaton ℕ) (word : List ℕ) (m : ℕ) → Whole word m → found S E word 0 m wide plane stack′ p (firstLevel counts endCounts) ≡ true → searched S E (getD endCounts 0 0) m (take (m + 1) word) root ≡ true)
-        → length stack′ ≡ stack → cells′ ≡ cells
-        → Entered rows masks coefs counts first endRows endMasks endCoefs endCounts endFirst wide plane room slots n 0 n p (firstLevel counts endCounts) root (replicate wordPlaces 0) stack′ seen sizes hints kept free may met turn cells′
-    entered-first few sound e₁ e₂ =
-        let s = g .sized in
+    pub entered-first : {p : ℕ} {stack′ : List ℕ} {met′ cells′ : ℕ} → p ≤ room
+        → ((S E : Automaton ℕ) (word : List ℕ) (m : ℕ) → Whole word m → found S E word 0 m wide plane stack′ p (rootLevel counts endCounts) ≡ true → searched S E (getD endCounts 0 0) m (take (m + 1) word) root ≡ true)
+        → length stack′ ≡ stack → cells′ ≡ cells → met′ ≡ met
+        → Entered rows masks coefs counts first endRows endMasks endCoefs endCounts endFirst wide plane room slots n 0 n p (rootLevel counts endCounts) root (replicate wordPlaces 0) stack′ seen sizes hints kept free may met′ turn cells′
+    entered-first few sound e₁ e₂ e₃ =
         record {
-          visiting = visit-begins (both-again (g .both) refl refl e₂) root lt;
-          here = record { from = sym (start-zero counts); to = roots-are counts; start = sym (start-zero endCounts); stop = roots-are endCounts };
-          sized = record {
-            long = s .long;
-            spare = s .spare;
-            hinted = s .hinted;
-            planes = omega (arith, s .planes);
-            short = s .short;
-            inKept = s .inKept;
-            inHints = s .inHints;
-            inSeen = s .inSeen;
-            inSizes = s .inSizes;
-            turns = s .turns;
-          };
+          visiting = visit-begins (both-again (g .both) refl e₂) root lt;
+          here = root-level counts endCounts;
+          sized = sized-again e₃ e₁ refl refl refl refl refl (g .sized);
           few = few;
           path = record { each = λ w whole same f. sound (tableAutomaton rows masks coefs first) (tableAutomaton endRows endMasks endCoefs endFirst) w n whole f };
           memory = g .memory;

@@ -2,21 +2,21 @@
 use mathlib.Core.Path.{_≡_, refl, sym, ap, _∙_}
 use mathlib.Core.Bool.{Bool, true, false, _&&_, false≢true}
 use mathlib.Core.List.{List, _∷_}
-use Prim.Native.Nat.{ℕ, suc, _+_, _-_, _*_, _<_, _≤_}
+use Prim.Native.Nat.{ℕ, _+_, _-_, _<_, _≤_}
 use native.Mathlib.Nat.{mul-le-mul-right}
 use native.Mathlib.Omega.{arith}
 use lib.IntN.{ℤ}
-use lib.ListN.{length, getD, set}
+use lib.ListN.{length, getD}
 use Rattle.amplitude.proofs.Equal.{both}
 use Rattle.automata.specs.Choice.{choicesMost, has}
 use Rattle.automata.specs.Members.{Member}
 use Rattle.jobs.specs.Reply.{wordPlaces}
 use Rattle.meeting.specs.declared.Level.{Level}
 use Rattle.matching.specs.Levels.{startOf, IsLevel}
-use Rattle.reaching.specs.Reached.{allReached, kidsIn, hasChoice, Kept, Gone, NextChoice}
+use Rattle.reaching.specs.Reached.{allReached, kidsIn, hasChoice, Gone, NextChoice}
 use Rattle.reaching.proofs.Spreads.{kept-same, kept-on, kept-less}
-use Rattle.filling.specs.Fill.{Low, Filled}
-use Rattle.filling.proofs.Grows.{low-same, low-on}
+use Rattle.batching.specs.Fill.{Low, Filled}
+use Rattle.batching.proofs.Grows.{low-same, low-on}
 use Rattle.remembering.specs.Memory.{Same, Memory}
 use Rattle.walking.specs.declared.Tally.{Tally}
 use Rattle.walking.specs.declared.Kind.the-variants.{Going}

@@ -1,6 +1,6 @@
 -- The members that go on from a place: what is true of each of them, how many they are, and how their words are read back. Assumes nothing.
 use mathlib.Core.Path.{_≡_, refl, sym, ap, ap₂, _∙_}
-use mathlib.Core.Bool.{Bool, true, false, cond, _&&_, false≢true}
+use mathlib.Core.Bool.{Bool, true, false, cond, _&&_}
 use mathlib.Core.List.{List, [], _∷_, _++_}
 use Prim.Native.Nat.{ℕ, zero, suc, _+_, _<_, _≤_}
 use native.Mathlib.Omega.{arith}
@@ -10,7 +10,7 @@ use lib.Seq.{getD-set-same, getD-set-other}
 use borrow.Author.Tests.{eqb-true, eqb-false}
 use Rattle.amplitude.proofs.Equal.{both}
 use Rattle.automata.specs.Choice.{choicesMost}
-use Rattle.automata.specs.Members.{Member, member, choices, flat, upTo}
+use Rattle.automata.specs.Members.{Member, member, flat, upTo}
 use Rattle.matching.specs.Seeking.{wordFrom}
 use Rattle.walking.specs.Walk.{membersBy, filled}
 use Rattle.walking.proofs.Rooms.{small-set}

@@ -11,19 +11,24 @@ use Rattle.meeting.specs.declared.Level.{Level}
 use Rattle.matching.specs.Levels.{startOf, IsLevel}
 use Rattle.matching.specs.Seeking.{Lent}
 use Rattle.reaching.specs.Reached.{Kept, Ended}
-use Rattle.filling.specs.Fill.{Low}
+use Rattle.batching.specs.Fill.{Low}
 use Rattle.remembering.specs.Memory.{levelsMost, Memory}
-use Rattle.walking.specs.Walk.{Both, Visiting}
+use Rattle.judging.specs.Judge.{Spaced}
+use Rattle.walking.specs.Walk.{spareWords, Both, Visiting}
 use Rattle.blocks.specs.Good.{good, Clean, OnPath}
 
 -- bytes of a remembered row: one for each state of the image
 abbrev pub rowCells : ℕ
 rowCells = 1024
 
--- how long the lent buffers are: a plane has the words of all pairs, and so have both rows of marks; planes and slots lie in theirs
+-- how long the lent buffers are: a plane has the words of all pairs, and so have both rows of marks; planes lie in the stack and, for the search,
+-- in `met`, slots in theirs
 pub record Sized (counts : List ℕ) (n wide plane room slots free met stack kept hints seen sizes turn : ℕ) : Type 0 where
   pub long : startOf counts (suc n) * wide ≤ plane
+  pub some : 0 < room
+  pub flat : plane ≤ spareWords
   pub spare : plane ≤ met
+  pub batches : room * plane ≤ met
   pub hinted : startOf counts (suc n) * wide ≤ free
   pub planes : room * plane ≤ stack
   pub short : startOf counts (suc n) ≤ rowCells
@@ -35,13 +40,13 @@ pub record Sized (counts : List ℕ) (n wide plane room slots free met stack kep
 
 -- between two roots: both tables, the buffers, and what is remembered
 pub record Started (rows masks : List ℕ) (coefs : List ℤ) (counts first endRows endMasks : List ℕ) (endCoefs : List ℤ) (endCounts endFirst : List ℕ) (wide plane room slots n : ℕ) (seen sizes hints kept : List ℕ) (free may met stack turn cells : ℕ) : Type 0 where
-  pub both : Both rows masks coefs counts first endRows endMasks endCoefs endCounts endFirst wide may met cells n
+  pub both : Both rows masks coefs counts first endRows endMasks endCoefs endCounts endFirst wide may cells n
   pub sized : Sized counts n wide plane room slots free met stack (length kept) (length hints) (length seen) (length sizes) turn
   pub memory : Memory wide plane room rowCells slots (startOf counts) (good rows masks coefs counts first endRows endMasks endCoefs endCounts endFirst wide plane n) seen sizes hints kept
 
 -- the walk stands at a block of level at + 1 with p relations, and m qubits are left from there on
 pub record Entered (rows masks : List ℕ) (coefs : List ℤ) (counts first endRows endMasks : List ℕ) (endCoefs : List ℤ) (endCounts endFirst : List ℕ) (wide plane room slots n at m p : ℕ) (l : Level) (root : ℕ) (word stack seen sizes hints kept : List ℕ) (free may met turn cells : ℕ) : Type 0 where
-  pub visiting : Visiting rows masks coefs counts first endRows endMasks endCoefs endCounts endFirst wide may met cells n at m (l .from) (l .to) root word
+  pub visiting : Visiting rows masks coefs counts first endRows endMasks endCoefs endCounts endFirst wide may cells n at m (l .from) (l .to) root word
   pub here : IsLevel counts endCounts at l
   pub sized : Sized counts n wide plane room slots free met (length stack) (length kept) (length hints) (length seen) (length sizes) turn
   pub few : p ≤ room
@@ -49,9 +54,10 @@ pub record Entered (rows masks : List ℕ) (coefs : List ℤ) (counts first endR
   pub memory : Memory wide plane room rowCells slots (startOf counts) (good rows masks coefs counts first endRows endMasks endCoefs endCounts endFirst wide plane n) seen sizes hints kept
 
 -- the word ends with choice c on the last level
-pub record Ending (rows masks : List ℕ) (coefs : List ℤ) (counts first endRows endMasks : List ℕ) (endCoefs : List ℤ) (endCounts endFirst : List ℕ) (wide plane n p : ℕ) (l : Level) (root : ℕ) (word stack : List ℕ) (may met cells c : ℕ) : Type 0 where
-  pub lent : Lent rows masks coefs counts first endRows endMasks endCoefs endCounts endFirst word wide met n
+pub record Ending (rows masks : List ℕ) (coefs : List ℤ) (counts first endRows endMasks : List ℕ) (endCoefs : List ℤ) (endCounts endFirst : List ℕ) (wide plane room n p : ℕ) (l : Level) (root : ℕ) (word stack : List ℕ) (may met cells c : ℕ) : Type 0 where
+  pub lent : Lent rows masks coefs counts first endRows endMasks endCoefs endCounts endFirst word wide plane n
   pub hinted : Lent rows masks coefs counts first endRows endMasks endCoefs endCounts endFirst word wide may n
+  pub space : Spaced plane room 0 met spareWords
   pub rooted : root < getD counts 0 0
   pub leaves : (s : ℕ) → l .from ≤ s → s < l .to → Ended masks first s
   pub celled : l .to ≤ cells

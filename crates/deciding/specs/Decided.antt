@@ -30,10 +30,10 @@ decided b J most = replyOf (answer most) (gatesJudged b J)
 unfoldable pub checkedBy : Bounds → Bounds → List ℕ → List ℕ → List ℕ → ℕ → Reply
 checkedBy b eb s c e most = replyOf (answer most) (onGood (filesJudged b eb s c e) (gatesJudged b))
 
--- the rows of the last phase: a word of marks for 32 pairs of at most 1,024 image states and 128 end states; such marks along a word, and
--- remembered; and bytes for the states of the blocks that are remembered
+-- the rows of the last phase, with a word of marks for 32 pairs of an image state and an end state: relations of the search, relations along a
+-- word, and relations that are remembered; and bytes for the states of the blocks that are remembered
 pub record LastRows (met stack kept hints : List ℕ) : Type 0 where
-  pub metLong : 4096 ≤ length met
+  pub metLong : 16384 ≤ length met
   pub stackLong : 16384 ≤ length stack
   pub keptLong : 16384 ≤ length kept
   pub hintsLong : 32768 ≤ length hints

@@ -1,7 +1,8 @@
 // The walk that remembers, level by level. At each level it carries a block: the states reached, and relations to end states. Where each word that
 // went on from a block was found from its relations, the block is remembered with the number of its members; met again, all of them pass, and
 // they are counted in one step.
-use filling::fill;
+use batching::batch;
+use judging::begin_from;
 use matching::next_level;
 use meeting::Level;
 use outcomes::CELLS;
@@ -14,7 +15,6 @@ use reaching::reach;
 use reaching::reach_next;
 use reaching::reach_none;
 use reaching::reached_choices;
-use relating::begin;
 use remembering::find;
 use walking::Tally;
 use walking::stopped;
@@ -91,6 +91,7 @@ fn branch(
             reached,
             wide,
             plane,
+            room,
             p,
             b,
             root,
@@ -194,7 +195,7 @@ fn descend(
             clean: true,
         };
     }
-    let q = fill(
+    let below = batch(
         rows,
         masks,
         first,
@@ -209,6 +210,7 @@ fn descend(
         free,
         met,
         c,
+        0,
         level,
         next,
     );
@@ -240,7 +242,7 @@ fn descend(
         plane,
         room,
         slots,
-        q,
+        below.count,
         b,
         root,
         next,
@@ -504,7 +506,7 @@ pub fn visit_root(
     };
     reach_none(reached, 0, level.to);
     reach(reached, root);
-    let p = begin(stack, plane, room, wide, free, root, level);
+    let start = begin_from(stack, plane, room, wide, free, met, root, 0, level);
     let r = visit(
         n,
         n,
@@ -533,7 +535,7 @@ pub fn visit_root(
         plane,
         room,
         slots,
-        p,
+        start.count,
         b,
         root,
         level,

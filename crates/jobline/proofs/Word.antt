@@ -4,13 +4,12 @@ use mathlib.Core.List.{List, [], _∷_, List·Memᴰ, List·Memᴰ·head, List·
 use mathlib.Core.Option.{some}
 use Prim.Native.Nat.{ℕ, zero, suc, _+_, _≤_}
 use native.Mathlib.Omega.{arith}
-use lib.ListN.{length, getD, getElem?}
+use lib.ListN.{getD, getElem?}
 use lib.Dec.{eqb, leb}
 use borrow.Author.Tests.{leb-true}
 use Rattle.amplitude.proofs.Equal.{both}
 use Rattle.automata.specs.Sets.{QSet}
 use Rattle.automata.specs.Members.{Member, member, members}
-use Rattle.automata.proofs.Words.{Word}
 use Rattle.automata.proofs.MemberLaws.{is-member}
 use Rattle.stored.specs.Refusal.{Judged, good, refusal, noSource, startSource, endSource}
 use Rattle.stored.specs.Form.{formOf, setOf}
@@ -23,16 +22,10 @@ use Rattle.gates.proofs.Circuits.{went}
 use Rattle.jobs.specs.Reply.{Reply, replyOf}
 use Rattle.jobs.specs.Check.{Ready, ready, judgeBy, judgeCheck, answer, checkAnswer}
 use Rattle.jobs.proofs.CheckTheorem.{Outcome, outcome}
+use Rattle.walking.proofs.Verdicts.{word-long}
 use Rattle.lines.proofs.Printed.{Choices}
 
 -- ---- words
-word-long : (n : ℕ) (w : List ℕ) → Word n w → length w ≡ n + 1
-word-long zero [] h = absurd h
-word-long zero (c ∷ []) h = refl
-word-long zero (c ∷ d ∷ w) h = absurd h
-word-long (suc n) [] h = absurd h
-word-long (suc n) (c ∷ w) h = omega (arith, word-long n w (h .1))
-
 listed : (ms : List Member) (i : ℕ) (m : Member) → getElem? ms i ≡ some m → List·Memᴰ m ms
 listed [] zero m e = let z : _≡_ {A = ℕ} 0 1 = cc in absurd (omega arith)
 listed [] (suc i) m e = let z : _≡_ {A = ℕ} 0 1 = cc in absurd (omega arith)

@@ -4,27 +4,23 @@ use mathlib.Core.Path.{_≡_, refl, sym, ap, ap₂, _∙_, subst}
 use mathlib.Core.Bool.{Bool, _||_}
 use mathlib.Core.List.{List, [], _∷_}
 use mathlib.Core.Option.{Option, none, some}
-use Prim.Native.Nat.{ℕ, zero, suc, _+_, _-_, _<_, _≤_}
+use Prim.Native.Nat.{ℕ, zero, suc, _+_, _-_, _<_}
 use native.Mathlib.Omega.{arith}
-use native.Mathlib.Numerals.{add-one}
 use lib.IntN.{ℤ}
-use lib.ListN.{length, getD, take}
-use Rattle.automata.specs.Choice.{mapO, choose}
+use lib.ListN.{getD, take}
+use Rattle.automata.specs.Choice.{choose}
 use Rattle.automata.specs.Tree.{Tree, Automaton, treeOf, node, andThen}
-use Rattle.automata.specs.Sets.{QSet, rootsIn, roots, automatonOf}
+use Rattle.automata.specs.Sets.{rootsIn, roots, automatonOf}
 use Rattle.automata.specs.Members.{upTo}
 use Rattle.automata.proofs.Words.{Word}
 use Rattle.stored.specs.Rules.{levelOf}
 use Rattle.verdict.specs.Verdict.{isState}
 use Rattle.verdict.specs.Search.{fitsOne, found, searched}
 use Rattle.verdict.proofs.Searching.{sameTrees, matches, search-exact}
-use Rattle.lookup.specs.Lookup.{transitionRow, pairRow}
-use Rattle.lookup.specs.Alts.{altsFrom, movesIn, tableAutomaton}
-use Rattle.lookup.proofs.Finding.{scan-hits}
+use Rattle.lookup.specs.Alts.{movesIn, tableAutomaton}
 use Rattle.lookup.proofs.AltsLaws.{inner-alts, leaf-alts}
-use Rattle.stepping.proofs.Answers.{choose-rows}
-use Rattle.matching.specs.Levels.{startOf, Among}
-use Rattle.matching.specs.Seeking.{wordFrom, anyWord, Held, Lent}
+use Rattle.matching.specs.Levels.{Among}
+use Rattle.matching.specs.Seeking.{Held, Lent}
 use Rattle.matching.proofs.LevelLaws.{start-zero, start-next}
 use Rattle.matching.proofs.Grounds.{start-is, level-of, chosen}
 use Rattle.matching.proofs.Words.{any-ext, word-found}

@@ -4,7 +4,7 @@ use mathlib.Core.Path.{_≡_, refl, sym, ap, _∙_, subst}
 use mathlib.Core.Bool.{Bool, true, false}
 use mathlib.Core.List.{List}
 use mathlib.Core.Option.{Option, none, some}
-use Prim.Native.Nat.{ℕ, zero, suc, _+_, _-_, _*_, _<_, _≤_}
+use Prim.Native.Nat.{ℕ, suc, _+_, _-_, _<_, _≤_}
 use native.Mathlib.Omega.{arith}
 use lib.Dec.{leb}
 use lib.IntN.{ℤ}
@@ -24,7 +24,7 @@ use Rattle.lookup.proofs.Finding.{rising, begin, end, rows-there, scan-hits}
 use Rattle.building.proofs.OldLeaves.{tr-at, lf-at, leaf-state}
 use Rattle.stepping.proofs.Answers.{choose-rows}
 use Rattle.stepping.specs.Step.{Kin, Inner}
-use Rattle.fitting.specs.Fit.{LeafRow, Leafy}
+use Rattle.fitting.specs.Fit.{Leafy}
 use Rattle.matching.specs.Levels.{startOf, Among}
 use Rattle.matching.specs.Seeking.{Held}
 use Rattle.matching.proofs.LevelLaws.{start-take, start-most, level-at, level-tells}

@@ -1,27 +1,25 @@
 -- Marks made level by level from the leaves up have every pair whose trees are equal by some word of the end set. Assumes nothing.
-use mathlib.Core.Path.{_≡_, refl, sym, ap, ap₂, _∙_, subst}
+use mathlib.Core.Path.{_≡_, refl, sym, ap₂, _∙_, subst}
 use mathlib.Core.Bool.{Bool, true, false, _&&_, false≢true}
 use mathlib.Core.List.{List, [], _∷_}
 use mathlib.Core.Option.{Option, none, some}
-use Prim.Native.Nat.{ℕ, zero, suc, _+_, _-_, _*_, _<_, _≤_}
+use Prim.Native.Nat.{ℕ, suc, _+_, _-_, _<_, _≤_}
 use native.Mathlib.Decide.{decLt}
 use native.Mathlib.Omega.{arith}
-use native.Mathlib.Numerals.{add-one}
 use lib.IntN.{ℤ}
-use lib.ListN.{length, getD}
+use lib.ListN.{getD}
 use Rattle.amplitude.proofs.Equal.{both}
-use Rattle.automata.specs.Choice.{choose}
 use Rattle.automata.specs.Tree.{Automaton, treeOf}
-use Rattle.verdict.proofs.Searching.{matches, no-tree}
+use Rattle.verdict.proofs.Searching.{no-tree}
 use Rattle.lookup.specs.Alts.{tableAutomaton}
 use Rattle.meeting.specs.declared.Level.{Level}
 use Rattle.meeting.specs.Met.{isMet, There}
 use Rattle.meeting.proofs.Places.{words-before}
 use Rattle.stepping.specs.Step.{kids, moveIn, Kin, KidsThere, Stage}
 use Rattle.fitting.specs.Fit.{LeafStage}
-use Rattle.hinting.specs.Hint.{LeafHint, KidsHint, Hint, EndRows, KidRows, PairReady, RowReady, Ground, Hinted}
-use Rattle.matching.specs.Levels.{startOf, Among, IsLevel}
-use Rattle.matching.specs.Seeking.{wordFrom, twins, Sound, Lent, Seeking}
+use Rattle.hinting.specs.Hint.{LeafHint, KidsHint, Ground, Hinted}
+use Rattle.matching.specs.Levels.{Among, IsLevel}
+use Rattle.matching.specs.Seeking.{wordFrom, twins, Sound, Seeking}
 use Rattle.matching.proofs.Grounds.{chosen}
 use Rattle.matching.proofs.Turns.{twins-step, twins-last}
 

@@ -1,5 +1,5 @@
 -- The search's steps: one level down by a choice of the end set, the last level, and the marks that stay. Assumes nothing.
-use mathlib.Core.Path.{_≡_, refl, sym, ap, ap₂, _∙_}
+use mathlib.Core.Path.{_≡_, refl, sym, ap, _∙_}
 use mathlib.Core.Bool.{Bool, true, false, _&&_, false≢true}
 use mathlib.Core.List.{List, [], _∷_}
 use mathlib.Core.Option.{Option, none, some}
@@ -19,17 +19,16 @@ use Rattle.verdict.proofs.Searching.{sameTrees, matches, no-tree, two-trees}
 use Rattle.lookup.specs.Lookup.{pairRow, isSome}
 use Rattle.lookup.specs.Alts.{altsFrom, tableAutomaton}
 use Rattle.meeting.specs.declared.Level.{Level}
-use Rattle.meeting.specs.Met.{isMet, There}
+use Rattle.meeting.specs.Met.{isMet}
 use Rattle.meeting.specs.All.{allMet}
 use Rattle.meeting.proofs.Places.{words-before}
-use Rattle.meeting.proofs.MetLaws.{On, Same, met-same, met-fails}
+use Rattle.meeting.proofs.MetLaws.{met-same, met-fails}
 use Rattle.stepping.specs.Step.{kids, kidsIn, Kept, Gone, Stage}
 use Rattle.stepping.proofs.Answers.{has-taken}
-use Rattle.sharing.specs.Shared.{hasChoice, LevelOpen}
-use Rattle.hinting.specs.Hint.{LevelThere}
+use Rattle.sharing.specs.Shared.{hasChoice}
 use Rattle.fitting.specs.Fit.{leavesIn, LeafStage}
-use Rattle.matching.specs.Levels.{startOf, Among, IsLevel, NextFits}
-use Rattle.matching.specs.Seeking.{wordFrom, anyWord, twins, sought, tried, Sound, Hints, Lent, Seeking}
+use Rattle.matching.specs.Levels.{startOf, IsLevel, NextFits}
+use Rattle.matching.specs.Seeking.{wordFrom, anyWord, twins, sought, tried, Sound, Hints, Seeking}
 use Rattle.matching.proofs.LevelLaws.{start-next}
 use Rattle.matching.proofs.Grounds.{starts-small, level-there, inner, leafy}
 use Rattle.matching.proofs.Words.{one-ext, any-ext, any-none}
@@ -73,16 +72,6 @@ module _ (S E : Automaton ℕ) where
     unfolding anyWord
     seek-some at m wide met l = refl
 
-    -- ---- marks of other levels do not matter
-    pub tried-same : (at m d : ℕ) {wide : ℕ} {met met′ : List ℕ} (l : Level) → l .stop ≤ wide * 32 → Kept wide met (l .to) met′
-        → tried S E word at m d wide met′ l ≡ tried S E word at m d wide met l
-    tried-same at m d {wide} {met} {met′} l small k =
-        any-ext (suc m) (λ v. allMet (twins S E word at (suc m) (d ∷ v)) wide met′ l) (λ v. allMet (twins S E word at (suc m) (d ∷ v)) wide met l)
-        (λ v. met-same (twins S E word at (suc m) (d ∷ v)) (twins S E word at (suc m) (d ∷ v)) wide met met′ l same (λ s e on. refl))
-      where
-        same : Same wide met met′ l
-        same = record { each = λ s e on. k .each s e (on .before) (omega (arith, on .endBefore)) }
-
 pub one-less : (m : ℕ) → (m ≡ 0 → ⊥) → suc (m - 1) ≡ m
 one-less m h = omega arith
 
@@ -111,9 +100,6 @@ module _ (rows masks : List ℕ) (coefs : List ℤ) (first endRows endMasks : Li
   pub seek-zero : (at m wide : ℕ) (met : List ℕ) (l : Level) {r : Bool} → m ≡ 0
       → r ≡ fitsOne (λ d. allMet (leavesIn rows masks coefs first endRows endMasks endCoefs endFirst (getD word at 0) d) wide met l) choices → r ≡ sought S E word at m wide met l
   seek-zero at m wide met l z e = e ∙ seek-last at wide met l ∙ ap (λ (k : ℕ). sought S E word at k wide met l) (sym z)
-
-  pub seek-left : (at m wide : ℕ) (met : List ℕ) (l : Level) → (m ≡ 0 → ⊥) → fitsOne (λ d. tried S E word at (m - 1) d wide met l) choices ≡ sought S E word at m wide met l
-  seek-left at m wide met l h = sym (seek-some S E word at (m - 1) wide met l) ∙ ap (λ (k : ℕ). sought S E word at k wide met l) (one-less m h)
 
   -- a choice that not all end states have
   pub no-attempt : (at m d wide : ℕ) (met : List ℕ) (l : Level) → allMet (hasChoice endMasks endFirst d) wide met l ≡ false → false ≡ tried S E word at m d wide met l
@@ -195,19 +181,6 @@ module _ {rows masks : List ℕ} {coefs : List ℤ} {counts first endRows endMas
         there = λ s e lo hi lo′ hi′. record { long = omega (arith, words-before wide s (l .to) hi, long-level 0 t); narrow = omega (arith, small-level 0 t) };
       }
 
--- the choices of the level's end states can be looked up
-pub level-open : {rows masks : List ℕ} {coefs : List ℤ} {counts first endRows endMasks : List ℕ} {endCoefs : List ℤ} {endCounts endFirst word : List ℕ} {wide size at : ℕ} {l : Level} (m : ℕ)
-    → Seeking rows masks coefs counts first endRows endMasks endCoefs endCounts endFirst word wide size at (suc m) l → LevelOpen endMasks endFirst wide size l
-level-open {wide = wide} {at = at} {l = l} m t = record {
-  each = λ s e lo hi lo′ hi′.
-      let k = inner (t .lent .ends) at e (omega arith) (record { after = omega (arith, t .here .start); before = omega (arith, t .here .stop) }) in
-      record {
-        there = record { long = omega (arith, words-before wide s (l .to) hi, long-level (suc m) t); narrow = omega (arith, small-level (suc m) t) };
-        begun = k .begun;
-        long = k .long;
-      };
-}
-
 -- the choices that all end states have do not change with marks of other levels
 pub shared-same : (endMasks endFirst : List ℕ) (d : ℕ) {wide : ℕ} {met met′ : List ℕ} (l : Level) → l .stop ≤ wide * 32 → Kept wide met (l .to) met′
     → allMet (hasChoice endMasks endFirst d) wide met l ≡ allMet (hasChoice endMasks endFirst d) wide met′ l
@@ -263,22 +236,3 @@ module _ {rows masks : List ℕ} {coefs : List ℤ} {counts first endRows endMas
 -- ---- the marks of pairs that could match
 pub hints-again : {S E : Automaton ℕ} {word counts endCounts : List ℕ} {wide : ℕ} {may : List ℕ} {n n′ : ℕ} → n′ ≡ n → Hints S E word counts endCounts wide may n → Hints S E word counts endCounts wide may n′
 hints-again e h = rw e h
-
-resized : {rows masks : List ℕ} {coefs : List ℤ} {counts first endRows endMasks : List ℕ} {endCoefs : List ℤ} {endCounts endFirst word : List ℕ} {wide size at m : ℕ} {l : Level} (size′ : ℕ)
-    → startOf counts (suc (at + m)) * wide ≤ size′ → Seeking rows masks coefs counts first endRows endMasks endCoefs endCounts endFirst word wide size at m l
-    → Seeking rows masks coefs counts first endRows endMasks endCoefs endCounts endFirst word wide size′ at m l
-resized size′ h t = record {
-  lent = record { image = t .lent .image; ends = t .lent .ends; letters = t .lent .letters; small = t .lent .small; long = h; narrow = t .lent .narrow };
-  here = t .here;
-}
-
-pub level-places : {rows masks : List ℕ} {coefs : List ℤ} {counts first endRows endMasks : List ℕ} {endCoefs : List ℤ} {endCounts endFirst word : List ℕ} {wide size at : ℕ} {l : Level} (m size′ : ℕ)
-    → startOf counts (suc (at + m)) * wide ≤ size′ → Seeking rows masks coefs counts first endRows endMasks endCoefs endCounts endFirst word wide size at m l → LevelThere wide size′ size l
-level-places {wide = wide} {l = l} m size′ h t = record {
-  each = λ s lo hi. record {
-    each = λ e lo′ hi′. (
-      record { long = omega (arith, words-before wide s (l .to) hi, long-level m (resized size′ h t)); narrow = omega (arith, small-level m t) },
-      record { long = omega (arith, words-before wide s (l .to) hi, long-level m t); narrow = omega (arith, small-level m t) },
-    );
-  };
-}

@@ -2,21 +2,18 @@
 -- Assumes nothing.
 use mathlib.Core.Path.{_≡_, refl, sym, ap, ap₂, _∙_}
 use mathlib.Core.Bool.{Bool, true, false, _&&_, _||_}
-use mathlib.Core.List.{List, [], _∷_, List·Memᴰ}
-use mathlib.Core.Option.{Option, none, some}
+use mathlib.Core.List.{List, [], _∷_}
 use Prim.Native.Nat.{ℕ, zero, suc, _+_, _<_, _≤_}
 use native.Mathlib.Omega.{arith}
 use native.Mathlib.Numerals.{add-one}
 use lib.ListN.{length, getD, take, drop}
 use lib.Seq.{drop-cons}
-use Rattle.amplitude.proofs.Equal.{both}
-use Rattle.automata.specs.Choice.{choose}
 use Rattle.automata.specs.Tree.{Automaton}
 use Rattle.automata.specs.Members.{choices}
 use Rattle.automata.proofs.Lists.{upTo-mem, upTo-inv}
 use Rattle.automata.proofs.Words.{Word}
 use Rattle.verdict.specs.Search.{Pair, fitsOne, found}
-use Rattle.verdict.proofs.Searching.{matches, allMatch, one-tells, one-is, found-tells, found-is}
+use Rattle.verdict.proofs.Searching.{matches, one-tells, one-is, found-tells, found-is}
 use Rattle.meeting.proofs.AllLaws.{same-test}
 use Rattle.matching.specs.Seeking.{wordFrom, anyWord}
 

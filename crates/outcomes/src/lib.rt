@@ -103,6 +103,7 @@ pub fn finish(
     reached: &[u8],
     wide: u16,
     plane: u16,
+    room: u16,
     p: u16,
     b: u32,
     root: u16,
@@ -111,7 +112,7 @@ pub fn finish(
     word: [u8; 21],
     t: Tally,
 ) -> Outcome
-    requires { ⌜ Ending (now rows) (now masks) (now coefs) (now counts) (now first) (now endrows) (now endmasks) (now endcoefs) (now endcounts) (now endfirst) wide plane n p level root word (now stack) (length (now may)) (length (now met)) (length (now reached)) c ⌝ }
+    requires { ⌜ Ending (now rows) (now masks) (now coefs) (now counts) (now first) (now endrows) (now endmasks) (now endcoefs) (now endcounts) (now endfirst) wide plane room n p level root word (now stack) (length (now may)) (length (now met)) (length (now reached)) c ⌝ }
     ensures { λ r. ⌜ (r .tally ≡ tallied (passesIn (now (rows .entry)) (now (masks .entry)) (now (coefs .entry)) (now (first .entry)) (now (endrows .entry)) (now (endmasks .entry)) (now (endcoefs .entry)) (now (endcounts .entry)) (now (endfirst .entry)) n) b t (membersBy root word (n + 1) 0 (λ (v : List ℕ). treesBy (now (rows .entry)) (now (masks .entry)) (now (coefs .entry)) (now (first .entry)) n 0 (now (reached .entry)) (level .from) (level .to) (c ∷ v)))) × (r .clean ≡ true → Clean (now (rows .entry)) (now (masks .entry)) (now (coefs .entry)) (now (first .entry)) (now (endrows .entry)) (now (endmasks .entry)) (now (endcoefs .entry)) (now (endfirst .entry)) wide plane n 0 p level (now (reached .entry)) (now (stack .entry)) c (c + 1)) ⌝ }
 {
     if !ends_all(masks, first, reached, c, level.from, level.to) {
@@ -154,6 +155,8 @@ pub fn finish(
         may,
         met,
         wide,
+        plane,
+        room,
         b,
         root,
         word,

@@ -33,15 +33,6 @@ plane-lent plane stack j {start} {stop} e f =
 pub plane-long : (plane : ℕ) (stack : List ℕ) (j : ℕ) → j * plane + plane ≤ length stack → length (planeOf plane stack j) ≡ plane
 plane-long plane stack j h = length-take-le plane (drop (j * plane) stack) (omega (arith, length-drop (j * plane) stack))
 
--- a pair's mark as one of the whole stack
-pub plane-mark : (plane wide : ℕ) (stack : List ℕ) (j s e : ℕ) → e < wide * 32 → s * wide + wide ≤ plane → isMet wide (planeOf plane stack j) s e ≡ flagAt stack ((j * plane + s * wide) * 32 + e)
-unfolding isMet flagAt
-plane-mark plane wide stack j s e small long =
-    let i : j * plane + place wide s e / 32 ≡ ((j * plane + s * wide) * 32 + e) / 32 = omega arith in
-    let b : place wide s e % 32 ≡ ((j * plane + s * wide) * 32 + e) % 32 = omega arith in
-    ap (λ (x : ℕ). has x (place wide s e % 32)) (plane-cell plane stack j (place wide s e / 32) (omega arith) ∙ ap (λ (x : ℕ). getD stack x 0) i)
-    ∙ ap (has (getD stack (((j * plane + s * wide) * 32 + e) / 32) 0)) b
-
 -- rows with the same words on the level have the same marks on it
 pub same-cells : {wide : ℕ} {met met′ : List ℕ} {l : Level} → l .stop ≤ wide * 32
     → ((i : ℕ) → l .from * wide ≤ i → i < l .to * wide → getD met′ i 0 ≡ getD met i 0) → Same wide met met′ l

@@ -4,7 +4,7 @@ use mathlib.Core.List.{List}
 use Prim.Native.Nat.{ℕ, suc, _+_, _*_, _<_, _≤_}
 use native.Mathlib.Omega.{arith}
 use lib.IntN.{ℤ}
-use lib.ListN.{length, replicate, length-replicate, getD-replicate}
+use lib.ListN.{replicate, length-replicate, getD-replicate}
 use Rattle.meeting.specs.declared.Level.{Level}
 use Rattle.fitting.specs.Fit.{LeafStage}
 use Rattle.stepping.specs.Step.{Stage}
@@ -48,7 +48,7 @@ module _ {rows masks : List ℕ} {coefs : List ℤ} {counts first endRows endMas
   pub two-levels : (at m : ℕ) {l next : Level} → at + suc m ≡ n → IsLevel counts endCounts at l → IsLevel counts endCounts (at + 1) next → Stage rows masks first endRows endMasks endFirst wide plane l next
   two-levels at m e is is′ = stage m (seeking t at (suc m) e is) is′
 
-  -- level 1, as `begin` asks for it
+  -- level 1, as the first relations ask for it
   pub first-level : {l : Level} {may root : ℕ} → IsLevel counts endCounts 0 l → startOf counts (suc n) * wide ≤ may → root < l .to → Rooted plane wide may root l
   first-level {may = may} is h lt = record {
     after = omega (arith, is .from, start-zero counts);

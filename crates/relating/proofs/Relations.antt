@@ -1,7 +1,7 @@
 -- What is found from several relations is found from one of them; and one level down from a relation, by any choice of the end set, leads to
 -- nothing that is not found from it. Assumes nothing.
 use mathlib.Core.Path.{_≡_, refl, sym, ap, _∙_, subst}
-use mathlib.Core.Bool.{Bool, true, _&&_}
+use mathlib.Core.Bool.{Bool, true, false, false≢true, _&&_}
 use mathlib.Core.List.{List}
 use mathlib.Core.Logic.{_⊎_, inl, inr}
 use Prim.Native.Nat.{ℕ, suc, _+_, _*_, _<_, _≤_}
@@ -41,6 +41,21 @@ below-tells p f h =
 
 pub below-is : (p : ℕ) (f : ℕ → Bool) (j : ℕ) → j < p → f j ≡ true → anyBelow p f ≡ true
 below-is p f j h e = one-is f (upTo 0 p) j (upTo-mem p 0 j (omega arith) (omega arith)) e
+
+-- no number below p passes
+pub below-none : (p : ℕ) (f : ℕ → Bool) → ((j : ℕ) → j < p → f j ≡ false) → false ≡ anyBelow p f
+below-none p f none = go (anyBelow p f) refl
+  where
+    go : (b : Bool) → anyBelow p f ≡ b → false ≡ anyBelow p f
+    go false e = sym e
+    go true e = let t = below-tells p f e in absurd (false≢true (sym (none (t .0) (t .1)) ∙ t .2))
+
+pub none-on : (f : ℕ → Bool) {j : ℕ} → ((i : ℕ) → i < j → f i ≡ false) → f j ≡ false → (i : ℕ) → i < j + 1 → f i ≡ false
+none-on f {j} none e i lt = go (decLt i j)
+  where
+    go : Dec (i < j) → f i ≡ false
+    go (yes less) = none i less
+    go (no more) = let same : i ≡ j = omega arith in ap f same ∙ e
 
 -- ---- one plane more
 module _ (S E : Automaton ℕ) (word : List ℕ) (at m : ℕ) {plane wide q r : ℕ} {stack row stack′ : List ℕ} {l : Level} (narrow : l .stop ≤ wide * 32) (long : l .to * wide ≤ plane)

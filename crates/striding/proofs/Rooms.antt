@@ -1,7 +1,7 @@
 -- The buffers, as they are shared out, have room for all pairs, planes and slots. Assumes nothing.
 use mathlib.Core.Path.{_≡_, ap, _∙_}
 use mathlib.Core.List.{List}
-use Prim.Native.Nat.{ℕ, zero, suc, _+_, _*_, _/_, _<_, _≤_}
+use Prim.Native.Nat.{ℕ, zero, suc, _+_, _-_, _*_, _/_, _<_, _≤_}
 use native.Mathlib.Nat.{mul-le-mul-right}
 use native.Mathlib.Omega.{arith}
 use lib.IntN.{ℤ}
@@ -20,6 +20,12 @@ pub factor-some : (r size most : ℕ) → most < r * size → 0 < r
 factor-some zero size most h = absurd (omega arith)
 factor-some (suc r) size most h = omega arith
 
+-- of parts that are too many one can be left, if it fits
+pub one-left : (r size : ℕ) → 16384 < r * size → size ≤ 16384 → 0 < r - 1
+one-left zero size h k = absurd (omega arith)
+one-left (suc zero) size h k = absurd (omega arith)
+one-left (suc (suc r)) size h k = omega arith
+
 -- so many words to a state of the image
 abbrev pub wideOf : ℕ → ℕ
 wideOf e = (e + 31) / 32
@@ -28,8 +34,8 @@ module _ {x e states ends : ℕ} (is : x ≡ states) (are : e ≡ ends) (narrow 
   pub plane-small : states ≤ 1024 → x * wideOf e ≤ 4096
   plane-small h = let le : x ≤ 1024 = omega arith in omega (arith, mul-le-mul-right (wideOf e) le)
 
-  pub shared-out : {room slots : ℕ} → room * (x * wideOf e) ≤ 16384 → slots ≤ 16 → slots * (room * (x * wideOf e)) ≤ 16384 → Shared states ends (wideOf e) (x * wideOf e) room slots
-  shared-out h most k = record { narrow = omega arith; few = omega arith; is = ap (λ (i : ℕ). i * wideOf e) is; planes = h; most = most; stacks = k }
+  pub shared-out : {room slots : ℕ} → states ≤ 1024 → (x * wideOf e ≤ 16384 → 0 < room) → room * (x * wideOf e) ≤ 16384 → slots ≤ 16 → slots * (room * (x * wideOf e)) ≤ 16384 → Shared states ends (wideOf e) (x * wideOf e) room slots
+  shared-out small some h most k = record { narrow = omega arith; few = omega arith; is = ap (λ (i : ℕ). i * wideOf e) is; some = some (omega (arith, plane-small small)); planes = h; most = most; stacks = k }
 
 module _ {rows masks : List ℕ} {coefs : List ℤ} {counts first endRows endMasks : List ℕ} {endCoefs : List ℤ} {endCounts endFirst : List ℕ} {met stack kept hints n : ℕ} (g : Lodged rows masks coefs counts first endRows endMasks endCoefs endCounts endFirst met stack kept hints n) where
   pub states-asked : (n < length counts) × (startOf counts (suc n) < 65536)
@@ -45,12 +51,11 @@ module _ {rows masks : List ℕ} {coefs : List ℤ} {counts first endRows endMas
     pub foresee-asked : {size : ℕ} → size ≡ 4096 → Foreseen rows masks coefs counts first endRows endMasks endCoefs endCounts endFirst wide size n
     foresee-asked e = record { image = g .image; ends = g .ends; long = omega (arith, pairs-fit); narrow = h .narrow }
 
-    abbrev pub both-lodged : {may cells : ℕ} → may ≡ 4096 → cells ≡ 1024 → Both rows masks coefs counts first endRows endMasks endCoefs endCounts endFirst wide may met cells n
+    abbrev pub both-lodged : {may cells : ℕ} → may ≡ 4096 → cells ≡ 1024 → Both rows masks coefs counts first endRows endMasks endCoefs endCounts endFirst wide may cells n
     both-lodged e f = record {
       image = g .image;
       ends = g .ends;
       hinted = omega (arith, pairs-fit);
-      long = omega (arith, pairs-fit, g .marks);
       narrow = h .narrow;
       celled = omega (arith, g .small);
     }
@@ -64,7 +69,10 @@ started-lodged {rows} {masks} {coefs} {counts} {first} {endRows} {endMasks} {end
       both = both-lodged g h e₂ e₅;
       sized = record {
         long = omega (arith, h .is);
-        spare = omega (arith, h .is, g .marks);
+        some = h .some;
+        flat = omega (arith, h .is, pairs);
+        spare = omega (arith, h .is, pairs, g .marks);
+        batches = omega (arith, h .planes, g .marks);
         hinted = omega (arith, pairs);
         planes = omega (arith, h .planes, g .planes);
         short = g .small;

@@ -1,7 +1,7 @@
 -- What the walk that remembers asks of its caller, and how the buffers are shared out.
 use mathlib.Core.Path.{_≡_}
 use mathlib.Core.List.{List}
-use Prim.Native.Nat.{ℕ, suc, _*_, _≤_}
+use Prim.Native.Nat.{ℕ, suc, _*_, _<_, _≤_}
 use lib.IntN.{ℤ}
 use Rattle.matching.specs.Levels.{startOf}
 use Rattle.matching.specs.Seeking.{Held}
@@ -12,7 +12,7 @@ pub record Lodged (rows masks : List ℕ) (coefs : List ℤ) (counts first endRo
   pub ends : Held endRows endMasks endCoefs endCounts endFirst n
   pub small : startOf counts (suc n) ≤ 1024
   pub narrow : startOf endCounts (suc n) ≤ 128
-  pub marks : 4096 ≤ met
+  pub marks : 16384 ≤ met
   pub planes : 16384 ≤ stack
   pub slots : 16384 ≤ kept
   pub cells : 32768 ≤ hints
@@ -23,6 +23,7 @@ pub record Shared (states ends wide plane room slots : ℕ) : Type 0 where
   pub narrow : ends ≤ wide * 32
   pub few : wide ≤ 4
   pub is : plane ≡ states * wide
+  pub some : 0 < room
   pub planes : room * plane ≤ 16384
   pub most : slots ≤ 16
   pub stacks : slots * (room * plane) ≤ 16384

@@ -187,9 +187,9 @@ fn states(counts: &[u16], n: u8) -> u16
     total
 }
 
-// How many parts of so many words the buffer has room for, at most 16.
+// How many parts of so many words the buffer has room for, at most 16; at least one if it has room for one.
 fn share(size: u16) -> u16
-    ensures { λ r. ⌜ (r ≤ 16) × (r * size ≤ 16384) ⌝ }
+    ensures { λ r. ⌜ (r ≤ 16) × (r * size ≤ 16384) × (size ≤ 16384 → 0 < r) ⌝ }
 {
     let mut r: u16 = 16;
     while r as u32 * size as u32 > 16384 {
@@ -198,7 +198,7 @@ fn share(size: u16) -> u16
     r
 }
 
-// The check's last phase, as `walking::walk` does it: the members of the image set, in order, each tested, up to the allowance b.
+// The check's last phase: the members of the image set, in order, each tested, up to the allowance b.
 pub fn stride(
     n: u8,
     rows: &[u16],

@@ -53,10 +53,6 @@ pub members-turn : (root : ℕ) (word : List ℕ) (at k : ℕ) (f : List ℕ →
 unfolding membersBy
 members-turn root word at k f = refl
 
-members-last : (root : ℕ) (word : List ℕ) (at at′ : ℕ) (f : List ℕ → Bool) → membersBy root word at 0 f ≡ membersBy root word at′ 0 f
-unfolding membersBy
-members-last root word at at′ f = refl
-
 members-none : (root : ℕ) (word : List ℕ) (at : ℕ) (f : List ℕ → Bool) → f [] ≡ false → membersBy root word at 0 f ≡ []
 unfolding membersBy
 members-none root word at f e = ap (λ (b : Bool). cond b (member root word ∷ []) []) e

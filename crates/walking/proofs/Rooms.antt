@@ -1,24 +1,21 @@
 -- What a walk asks of the tables and buffers stays asked from level to level. Assumes nothing.
-use mathlib.Core.Path.{_≡_, refl, sym, ap, _∙_, subst}
+use mathlib.Core.Path.{_≡_, refl, sym, ap, subst}
 use mathlib.Core.Bool.{Bool, true, false}
 use mathlib.Core.List.{List}
 use Prim.Native.Nat.{ℕ, zero, suc, _+_, _-_, _*_, _<_, _≤_}
 use native.Mathlib.Decide.{decLt}
-use native.Mathlib.Nat.{mul-le-mul-right}
-use native.Mathlib.Numerals.{add-one}
 use native.Mathlib.Omega.{arith}
 use lib.Dec.{eqb}
 use lib.IntN.{ℤ}
-use lib.ListN.{length, getD, set, replicate, length-set}
+use lib.ListN.{length, getD, set, replicate}
 use lib.Seq.{getD-set-same, getD-set-other}
 use borrow.Author.Tests.{eqb-true, eqb-false}
 use Rattle.automata.specs.Choice.{choicesMost}
-use Rattle.automata.specs.Sets.{sum}
 use Rattle.jobs.specs.Reply.{wordPlaces}
 use Rattle.matching.specs.Levels.{startOf, Among}
-use Rattle.matching.specs.Seeking.{Held, Lent}
-use Rattle.matching.proofs.LevelLaws.{start-zero, start-next, start-most}
-use Rattle.matching.proofs.Grounds.{start-is, starts-small, level-there, inner, leafy}
+use Rattle.matching.specs.Seeking.{Lent}
+use Rattle.matching.proofs.LevelLaws.{start-zero, start-next}
+use Rattle.matching.proofs.Grounds.{starts-small, inner, leafy}
 use Rattle.reaching.specs.Reached.{Stage, Ended}
 use Rattle.walking.specs.Walk.{Both, Visiting}
 
@@ -41,29 +38,11 @@ zeros-small zero i = omega arith
 zeros-small (suc k) zero = omega arith
 zeros-small (suc k) (suc i) = zeros-small k i
 
--- the states of all levels, as the slices have them, are those of the set
-all-states : {rows masks : List ℕ} {coefs : List ℤ} {counts first : List ℕ} {n : ℕ} (h : Held rows masks coefs counts first n) → startOf counts (suc n) ≤ sum (h .set .counts)
-all-states {n = n} h = omega (arith, start-is h (suc n) (omega arith), start-most (h .set .counts) (suc n))
-
--- what a walk asks, by the numbers of states of both sets
-pub both-from : {rows masks : List ℕ} {coefs : List ℤ} {counts first endRows endMasks : List ℕ} {endCoefs : List ℤ} {endCounts endFirst : List ℕ} {wide hints size cells n : ℕ}
-    (h : Held rows masks coefs counts first n) (e : Held endRows endMasks endCoefs endCounts endFirst n)
-    → sum (h .set .counts) * wide ≤ hints → sum (h .set .counts) * wide ≤ size → sum (e .set .counts) ≤ wide * 32 → sum (h .set .counts) ≤ cells
-    → Both rows masks coefs counts first endRows endMasks endCoefs endCounts endFirst wide hints size cells n
-both-from {wide = wide} h e hinted long narrow celled = record {
-  image = h;
-  ends = e;
-  hinted = omega (arith, mul-le-mul-right wide (all-states h), hinted);
-  long = omega (arith, mul-le-mul-right wide (all-states h), long);
-  narrow = omega (arith, all-states e, narrow);
-  celled = omega (arith, all-states h, celled);
-}
-
-module _ {rows masks : List ℕ} {coefs : List ℤ} {counts first endRows endMasks : List ℕ} {endCoefs : List ℤ} {endCounts endFirst : List ℕ} {wide hints size cells n : ℕ} where
+module _ {rows masks : List ℕ} {coefs : List ℤ} {counts first endRows endMasks : List ℕ} {endCoefs : List ℤ} {endCounts endFirst : List ℕ} {wide hints cells n : ℕ} where
   -- ---- both tables
-  module _ (g : Both rows masks coefs counts first endRows endMasks endCoefs endCounts endFirst wide hints size cells n) where
-    pub both-again : {hints′ size′ cells′ : ℕ} → hints′ ≡ hints → size′ ≡ size → cells′ ≡ cells → Both rows masks coefs counts first endRows endMasks endCoefs endCounts endFirst wide hints′ size′ cells′ n
-    both-again d e f = rw (d, e, f) g
+  module _ (g : Both rows masks coefs counts first endRows endMasks endCoefs endCounts endFirst wide hints cells n) where
+    pub both-again : {hints′ cells′ : ℕ} → hints′ ≡ hints → cells′ ≡ cells → Both rows masks coefs counts first endRows endMasks endCoefs endCounts endFirst wide hints′ cells′ n
+    both-again d e = rw (d, e) g
 
     pub few-levels : n ≤ 20
     few-levels = omega (arith, g .image .formed .nFew, g .image .qubits)
@@ -86,7 +65,7 @@ module _ {rows masks : List ℕ} {coefs : List ℤ} {counts first endRows endMas
       narrow = g .narrow;
     }
 
-    pub visit-begins : (root : ℕ) → root < getD counts 0 0 → Visiting rows masks coefs counts first endRows endMasks endCoefs endCounts endFirst wide hints size cells n 0 n 0 (getD counts 0 0) root (replicate wordPlaces 0)
+    pub visit-begins : (root : ℕ) → root < getD counts 0 0 → Visiting rows masks coefs counts first endRows endMasks endCoefs endCounts endFirst wide hints cells n 0 n 0 (getD counts 0 0) root (replicate wordPlaces 0)
     visit-begins root lt = record {
       both = g;
       levels = omega arith;
@@ -97,25 +76,15 @@ module _ {rows masks : List ℕ} {coefs : List ℤ} {counts first endRows endMas
     }
 
   -- ---- one level
-  module _ {at m from to root : ℕ} {word : List ℕ} (v : Visiting rows masks coefs counts first endRows endMasks endCoefs endCounts endFirst wide hints size cells n at m from to root word) where
-    pub visit-again : {hints′ size′ cells′ : ℕ} → hints′ ≡ hints → size′ ≡ size → cells′ ≡ cells → Visiting rows masks coefs counts first endRows endMasks endCoefs endCounts endFirst wide hints′ size′ cells′ n at m from to root word
-    visit-again d e f = rw (d, e, f) v
+  module _ {at m from to root : ℕ} {word : List ℕ} (v : Visiting rows masks coefs counts first endRows endMasks endCoefs endCounts endFirst wide hints cells n at m from to root word) where
+    pub visit-again : {hints′ cells′ : ℕ} → hints′ ≡ hints → cells′ ≡ cells → Visiting rows masks coefs counts first endRows endMasks endCoefs endCounts endFirst wide hints′ cells′ n at m from to root word
+    visit-again d e = rw (d, e) v
 
     pub at-few : at + m ≤ 20
     at-few = omega (arith, v .levels, few-levels (v .both))
 
     pub level-celled : to ≤ cells
     level-celled = omega (arith, v .stops, start-up counts (suc at) (suc n) (omega (arith, v .levels)), v .both .celled)
-
-    word-lent : (c : ℕ) → c < choicesMost → length word ≡ wordPlaces → {row : ℕ} → startOf counts (suc n) * wide ≤ row
-        → Lent rows masks coefs counts first endRows endMasks endCoefs endCounts endFirst (set word at c) wide row n
-    word-lent c lt long enough = lent (v .both) (set word at c) (length-set word at c ∙ long) (small-set word at c (v .small) lt (omega (arith, at-few))) enough
-
-    -- for the pairs that are met, and for those that could match
-    pub rows-lent : (c : ℕ) → c < choicesMost → length word ≡ wordPlaces
-        → Lent rows masks coefs counts first endRows endMasks endCoefs endCounts endFirst (set word at c) wide size n
-        × Lent rows masks coefs counts first endRows endMasks endCoefs endCounts endFirst (set word at c) wide hints n
-    rows-lent c lt long = (word-lent c lt long (v .both .long), word-lent c lt long (v .both .hinted))
 
     pub leaves-there : m ≡ 0 → (s : ℕ) → from ≤ s → s < to → Ended masks first s
     leaves-there z s lo hi =
@@ -131,9 +100,6 @@ module _ {rows masks : List ℕ} {coefs : List ℤ} {counts first endRows endMas
           one-there zero h = absurd (h refl)
           one-there (suc k) h = omega arith
 
-      pub next-there : (at + 1 < length counts) × (to ≡ startOf counts (suc at)) × (startOf counts (suc (suc at)) < 65536)
-      next-there = (level-there (v .both .image) (at + 1) (omega (arith, less)), v .stops, starts-small (v .both .image) (suc (suc at)) (omega (arith, less)))
-
       module _ {till : ℕ} (e : till ≡ startOf counts (suc (suc at))) where
         pub stage : Stage rows masks first cells from to till
         stage = record {
@@ -141,20 +107,6 @@ module _ {rows masks : List ℕ} {coefs : List ℤ} {counts first endRows endMas
           levels = omega (arith, v .stops, start-next counts (suc at));
           long = omega (arith, start-up counts (suc (suc at)) (suc n) (omega (arith, less)), v .both .celled);
         }
-
-        pub visit-next : (c : ℕ) → c < choicesMost → length word ≡ wordPlaces
-            → Visiting rows masks coefs counts first endRows endMasks endCoefs endCounts endFirst wide hints size cells n (at + 1) (m - 1) to till root (set word at c)
-        visit-next c lt long = record {
-          both = v .both;
-          levels = omega (arith, v .levels, less);
-          begins = v .stops ∙ ap (startOf counts) (sym (add-one at));
-          stops = e ∙ ap (λ (k : ℕ). startOf counts (suc k)) (sym (add-one at));
-          rooted = v .rooted;
-          small = small-set word at c (v .small) lt (omega (arith, at-few));
-        }
-
-        pub till-later : to ≤ till
-        till-later = stage .levels
 
     -- the rows of each state of the level are there
     pub states-there : (s : ℕ) → from ≤ s → s < to → Ended masks first s

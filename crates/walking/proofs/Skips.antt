@@ -9,7 +9,7 @@ use native.Mathlib.Omega.{arith}
 use lib.IntN.{ℤ}
 use lib.ListN.{set}
 use Rattle.automata.specs.Choice.{choicesMost, has}
-use Rattle.automata.specs.Tree.{Tree, treeOf, node, andThen}
+use Rattle.automata.specs.Tree.{treeOf, node, andThen}
 use Rattle.automata.specs.Members.{flat, upTo}
 use Rattle.lookup.specs.Lookup.{pairRow, leafOf, isSome}
 use Rattle.lookup.specs.Alts.{altsFrom, leafAlts, tableAutomaton}

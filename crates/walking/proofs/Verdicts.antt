@@ -27,7 +27,7 @@ use Rattle.walking.specs.Tallied.{tickOf, tallied, Halted, replyBy, repl
 use Rattle.walking.specs.Walk.{passesIn, filled, rootOf, Both}
 use Rattle.walking.proofs.TallyLaws.{tally-halted, tick-used, tick-passed, tick-missed}
 use Rattle.walking.proofs.Placed.{fill-zeros, placed, read-back}
-use Rattle.walking.proofs.Rooms.{few-levels, lent}
+use Rattle.walking.proofs.Rooms.{zeros-small, few-levels, lent}
 use Rattle.walking.proofs.Listed.{inZeros, all-listed}
 
 -- a check that goes on, after p members that passed
@@ -76,7 +76,7 @@ module _ (passes test : Member → Bool) where
           ∙ ap (λ (k : ℕ). replyFrom (says (fails k (member r w)))) (add-one p)
 
 -- ---- a word of the definitions
-word-long : (n : ℕ) (w : List ℕ) → Word n w → length w ≡ n + 1
+pub word-long : (n : ℕ) (w : List ℕ) → Word n w → length w ≡ n + 1
 word-long zero [] h = absurd h
 word-long zero (c ∷ []) h = refl
 word-long zero (c ∷ d ∷ w) h = absurd h
@@ -86,20 +86,15 @@ word-long (suc n) (c ∷ w) h = omega (arith, word-long n w (h .1))
 word-small : (n : ℕ) (w : List ℕ) (k : ℕ) → Word n w → (i : ℕ) → getD (w ++ replicate k 0) i 0 < choicesMost
 word-small zero [] k h i = absurd h
 word-small zero (c ∷ []) k h zero = h
-word-small zero (c ∷ []) k h (suc i) = zeros k i
-  where
-    zeros : (z j : ℕ) → getD {A = ℕ} (replicate z 0) j 0 < choicesMost
-    zeros zero j = omega arith
-    zeros (suc z) zero = omega arith
-    zeros (suc z) (suc j) = zeros z j
+word-small zero (c ∷ []) k h (suc i) = zeros-small k i
 word-small zero (c ∷ d ∷ w) k h i = absurd h
 word-small (suc n) [] k h i = absurd h
 word-small (suc n) (c ∷ w) k h zero = h .0
 word-small (suc n) (c ∷ w) k h (suc i) = word-small n w k (h .1) i
 
 -- ---- both tables
-module _ {rows masks : List ℕ} {coefs : List ℤ} {counts first endRows endMasks : List ℕ} {endCoefs : List ℤ} {endCounts endFirst : List ℕ} {wide hints size cells n : ℕ}
-    (g : Both rows masks coefs counts first endRows endMasks endCoefs endCounts endFirst wide hints size cells n) where
+module _ {rows masks : List ℕ} {coefs : List ℤ} {counts first endRows endMasks : List ℕ} {endCoefs : List ℤ} {endCounts endFirst : List ℕ} {wide hints cells n : ℕ}
+    (g : Both rows masks coefs counts first endRows endMasks endCoefs endCounts endFirst wide hints cells n) where
   abbrev test : Member → Bool
   test = passesIn rows masks coefs first endRows endMasks endCoefs endCounts endFirst n
 
@@ -118,8 +113,8 @@ module _ {rows masks : List ℕ} {coefs : List ℤ} {counts first endRows endMas
     places-small : (i : ℕ) → getD (filled (replicate wordPlaces 0) 0 w) i 0 < choicesMost
     places-small i = subst (λ (u : List ℕ). getD u i 0 < choicesMost) (sym (fill-zeros w fits)) (word-small (g .image .set .n) w (wordPlaces - length w) (is .word) i)
 
-    abbrev lent-word : Lent rows masks coefs counts first endRows endMasks endCoefs endCounts endFirst (filled (replicate wordPlaces 0) 0 w) wide size n
-    lent-word = lent g (filled (replicate wordPlaces 0) 0 w) places-long places-small (g .long)
+    abbrev lent-word : Lent rows masks coefs counts first endRows endMasks endCoefs endCounts endFirst (filled (replicate wordPlaces 0) 0 w) wide hints n
+    lent-word = lent g (filled (replicate wordPlaces 0) 0 w) places-long places-small (g .hinted)
 
     back : take (n + 1) (filled (replicate wordPlaces 0) 0 w) ≡ w
     back = read-back w (n + 1) is-long (omega (arith, few-levels g))

@@ -1,5 +1,5 @@
 -- The members of the image by a walk over choices: level by level the states that a word reaches, in the order of words. What the walk asks:
--- both tables hold well-formed sets of n qubits, and there is room for both rows of marks of the search and a cell for each state of the image.
+-- both tables hold well-formed sets of n qubits, and there is room for the marks of the pairs that could match and a cell for each state of the image.
 use mathlib.Core.Path.{_≡_}
 use mathlib.Core.Bool.{Bool, cond}
 use mathlib.Core.List.{List, [], _∷_}
@@ -49,22 +49,21 @@ abbrev pub passesIn : List ℕ → List ℕ → List ℤ → List ℕ → List �
 passesIn rows masks coefs first endRows endMasks endCoefs endCounts endFirst n (member r w) =
     searched (tableAutomaton rows masks coefs first) (tableAutomaton endRows endMasks endCoefs endFirst) (getD endCounts 0 0) n (take (n + 1) w) r
 
--- words of marks for the pairs that could match: four to each of 1,024 states of the image
-abbrev pub hintWords : ℕ
-hintWords = 4096
+-- words of the spare row that the search has: four to each of 1,024 states of the image
+abbrev pub spareWords : ℕ
+spareWords = 4096
 
--- both tables, room for the marks of all pairs, those that could match and those that are met, and a cell for each state of the image
-pub record Both (rows masks : List ℕ) (coefs : List ℤ) (counts first endRows endMasks : List ℕ) (endCoefs : List ℤ) (endCounts endFirst : List ℕ) (wide hints size cells n : ℕ) : Type 0 where
+-- both tables, room for the marks of the pairs that could match, and a cell for each state of the image
+pub record Both (rows masks : List ℕ) (coefs : List ℤ) (counts first endRows endMasks : List ℕ) (endCoefs : List ℤ) (endCounts endFirst : List ℕ) (wide hints cells n : ℕ) : Type 0 where
   pub image : Held rows masks coefs counts first n
   pub ends : Held endRows endMasks endCoefs endCounts endFirst n
   pub hinted : startOf counts (suc n) * wide ≤ hints
-  pub long : startOf counts (suc n) * wide ≤ size
   pub narrow : startOf endCounts (suc n) ≤ wide * 32
   pub celled : startOf counts (suc n) ≤ cells
 
 -- the walk has reached level at + 1, whose states are from `from` up to below `to`, and m qubits are left from there on
-pub record Visiting (rows masks : List ℕ) (coefs : List ℤ) (counts first endRows endMasks : List ℕ) (endCoefs : List ℤ) (endCounts endFirst : List ℕ) (wide hints size cells n at m from to root : ℕ) (word : List ℕ) : Type 0 where
-  pub both : Both rows masks coefs counts first endRows endMasks endCoefs endCounts endFirst wide hints size cells n
+pub record Visiting (rows masks : List ℕ) (coefs : List ℤ) (counts first endRows endMasks : List ℕ) (endCoefs : List ℤ) (endCounts endFirst : List ℕ) (wide hints cells n at m from to root : ℕ) (word : List ℕ) : Type 0 where
+  pub both : Both rows masks coefs counts first endRows endMasks endCoefs endCounts endFirst wide hints cells n
   pub levels : at + m ≡ n
   pub begins : from ≡ startOf counts at
   pub stops : to ≡ startOf counts (suc at)

@@ -22,7 +22,7 @@ use Rattle.walking.proofs.Rooms.{at-few}
 use Rattle.walking.proofs.Skips.{skip-members}
 use Rattle.blocks.specs.Good.{good}
 use Rattle.blocks.specs.Block.{Entered, Strode}
-use Rattle.blocks.proofs.Entries.{starts-rise, choices-asked, block-fits, entered-set, entered-again, ending, next-asked, next-from, next-later, reach-asked, fill-asked, entered-down}
+use Rattle.blocks.proofs.Entries.{starts-rise, choices-asked, block-fits, entered-set, entered-again, ending, next-asked, next-from, next-later, reach-asked, batch-asked, entered-down}
 use Rattle.blocks.proofs.Strides.{strode-last, strode-begin, strode-skip, strode-turn, strode-dead, strode-down, dead-members, down-members, known-many, known-pass, known-strode, counted-more, kept-good, strode-kept, strode-all, strode-stops}
 use Rattle.entering.proofs.branch.Reads as branch
 use Rattle.entering.proofs.branch.Kinds as branch-kinds
@@ -36,7 +36,7 @@ use Rattle.entering.proofs.+branch+descend+enter+visit.Lts-enter as ent
 use Rattle.entering.proofs.visit.Reads as visit
 use Rattle.entering.proofs.visit.Kinds as visit-kinds
 use Rattle.entering.proofs.+branch+descend+enter+visit.Lts-visit as visit-lts
-use Rattle.filling.proofs.fill.Reads as fill-reads
+use Rattle.batching.proofs.batch.Reads as batch-reads
 use Rattle.matching.proofs.next_level.Reads as next-level-reads
 use Rattle.reaching.proofs.next_choice.Reads as next-choice-reads
 use Rattle.reaching.proofs.reach_next.Reads as reach-next-reads
@@ -162,7 +162,7 @@ branch-returns-2 : (t : ℕ) → branch-lts.Need-returns-2 (branch-rs t) (branch
 branch-returns-2 t c = c .before .before .before .before .before .before .before .before .before .before .before .before .before .before .before .before .before .before .descend .ensures
 
 abbrev descend-rs : ℕ → descend-lts.Claims
-descend-rs t = (next-level-reads.Asked, next-level-reads.Learnt, reach-next-reads.Asked, reach-next-reads.Learnt, fill-reads.Asked, fill-reads.Learnt, enter-below t, enter.Post)
+descend-rs t = (next-level-reads.Asked, next-level-reads.Learnt, reach-next-reads.Asked, reach-next-reads.Learnt, batch-reads.Asked, batch-reads.Learnt, enter-below t, enter.Post)
 
 -- ---- descend
 descend-next-level-requires : (t : ℕ) → descend-lts.Need-next-level-requires (descend-rs t) (descend-at t) descend.Post
@@ -184,12 +184,12 @@ descend-returns t c =
     let long : length (a .word) ≡ wordPlaces = search (needs, s .good .1 .1 .1 .1 .1 .1 .1 .1 .1 .1 .1 .1 .1 .1 .1 .1 .1 .1 .1 .1 .1 .1 .1 .1 .1 .1 .1 .1 .1 .1 .1 .1 .0) in
     (dead-members e some (s .pre .1 .2) long (c .before .before .before .reach-next .ensures) none (passesIn (now (a .rows)) (now (a .masks)) (now (a .coefs)) (now (a .first)) (now (a .endrows)) (now (a .endmasks)) (now (a .endcoefs)) (now (a .endcounts)) (now (a .endfirst)) (a .n)) (a .b) (a .t), strode-dead e some (c .before .before .before .reach-next .ensures) none)
 
-descend-fill-requires : (t : ℕ) → descend-lts.Need-fill-requires (descend-rs t) (descend-at t) descend.Post
-descend-fill-requires t c κs =
+descend-batch-requires : (t : ℕ) → descend-lts.Need-batch-requires (descend-rs t) (descend-at t) descend.Post
+descend-batch-requires t c κs =
     let s = c .before .before .before .before .before .before .before .before .before .before .before .before .before .before .before .before .before .before .before .before .before .before .before .before .before .before in
     let a = s .args in
     let long : length (a .word) ≡ wordPlaces = search (needs, s .good .1 .1 .1 .1 .1 .1 .1 .1 .1 .1 .1 .1 .1 .1 .1 .1 .1 .1 .1 .1 .1 .1 .1 .1 .1 .1 .1 .1 .1 .1 .1 .1 .0) in
-    (fill-asked (s .pre .1 .0) (s .pre .1 .3) (c .before .before .before .before .before .before .before .next-level .ensures) long, s .pre .1 .0 .sized .planes, s .pre .1 .0 .few, s .pre .1 .1)
+    (batch-asked (s .pre .1 .0) (s .pre .1 .3) (c .before .before .before .before .before .before .before .next-level .ensures) long, s .pre .1 .0 .sized .planes, s .pre .1 .0 .few, s .pre .1 .1)
 
 descend-sub-enter : (t : ℕ) → descend-lts.Need-sub-enter (descend-rs t) (descend-at t) descend.Post
 descend-sub-enter t c = let s = c .before .before .before .before .before .before .before .before .before .before .before .before .before .before .before .before .before .before .before .before .before .before .before .before .before .before .before .before .before .before .before in omega (arith, s .pre .1 .3)
@@ -201,16 +201,16 @@ descend-enter-requires : (t : ℕ) → descend-lts.Need-enter-requires (descend-
 descend-enter-requires t c κs =
     let s = c .before .before .before .before .before .before .before .before .before .before .before .before .before .before .before .before .before .before .before .before .before .before .before .before .before .before .before .before .before .before .before .before .before .before .before .before .before .before .before .before in
     let some = s .pre .1 .3 in
-    (omega (arith, s .pre .0, some), entered-down (s .pre .1 .0) some (c .before .before .before .before .before .before .before .before .before .before .before .before .before .before .before .before .before .before .before .before .before .next-level .ensures) (s .pre .1 .2) (c .before .before .before .before .before .before .before .before .before .before .before .before .before .fill .ensures) (c .before .before .before .before .before .before .before .before .before .before .before .before .before .fill .kept .1 .1 .1 .1 .1 .1 .0) (c .before .before .before .before .before .before .before .before .before .before .before .before .before .fill .kept .1 .1 .1 .1 .1 .1 .1 .1 .1 .1 .1 .1 .0) (c .before .before .before .before .before .before .before .before .before .before .before .before .before .before .before .before .before .before .before .reach-next .kept .1 .1 .1 .0))
+    (omega (arith, s .pre .0, some), entered-down (s .pre .1 .0) some (c .before .before .before .before .before .before .before .before .before .before .before .before .before .before .before .before .before .before .before .before .before .next-level .ensures) (s .pre .1 .2) (c .before .before .before .before .before .before .before .before .before .before .before .before .before .batch .ensures .filled) (c .before .before .before .before .before .before .before .before .before .before .before .before .before .batch .kept .1 .1 .1 .1 .1 .1 .0) (c .before .before .before .before .before .before .before .before .before .before .before .before .before .batch .kept .1 .1 .1 .1 .1 .1 .1 .1 .1 .1 .1 .1 .0) (c .before .before .before .before .before .before .before .before .before .before .before .before .before .before .before .before .before .before .before .reach-next .kept .1 .1 .1 .0))
 
 descend-same-length-2 : (t : ℕ) → descend-lts.Need-same-length-2 (descend-rs t) (descend-at t) descend.Post
 descend-same-length-2 t c = c .before .before .before .before .before .before .before .before .before .before .before .before .before .before .before .before .before .before .enter .kept .1 .1 .1 .1 .1 .1 .1 .1 .1 .1 .1 .1 .1 .1 .0
 
 descend-same-length-3 : (t : ℕ) → descend-lts.Need-same-length-3 (descend-rs t) (descend-at t) descend.Post
-descend-same-length-3 t c = c .before .before .before .before .before .before .before .before .before .before .before .before .before .before .before .before .before .before .enter .kept .1 .1 .1 .1 .1 .1 .1 .1 .1 .1 .1 .1 .1 .1 .1 .0 ∙ c .before .before .before .before .before .before .before .before .before .before .before .before .before .before .before .before .before .before .before .before .before .before .before .before .before .before .before .before .before .before .before .before .fill .kept .1 .1 .1 .1 .1 .1 .1 .1 .1 .1 .1 .1 .0
+descend-same-length-3 t c = c .before .before .before .before .before .before .before .before .before .before .before .before .before .before .before .before .before .before .enter .kept .1 .1 .1 .1 .1 .1 .1 .1 .1 .1 .1 .1 .1 .1 .1 .0 ∙ c .before .before .before .before .before .before .before .before .before .before .before .before .before .before .before .before .before .before .before .before .before .before .before .before .before .before .before .before .before .before .before .before .batch .kept .1 .1 .1 .1 .1 .1 .1 .1 .1 .1 .1 .1 .0
 
 descend-same-length-4 : (t : ℕ) → descend-lts.Need-same-length-4 (descend-rs t) (descend-at t) descend.Post
-descend-same-length-4 t c = c .before .before .before .before .before .before .before .before .before .before .before .before .before .before .before .before .before .before .enter .kept .1 .1 .1 .1 .1 .1 .1 .1 .1 .1 .1 .1 .1 .1 .1 .1 .0 ∙ c .before .before .before .before .before .before .before .before .before .before .before .before .before .before .before .before .before .before .before .before .before .before .before .before .before .before .before .before .before .before .before .before .fill .kept .1 .1 .1 .1 .1 .1 .0
+descend-same-length-4 t c = c .before .before .before .before .before .before .before .before .before .before .before .before .before .before .before .before .before .before .enter .kept .1 .1 .1 .1 .1 .1 .1 .1 .1 .1 .1 .1 .1 .1 .1 .1 .0 ∙ c .before .before .before .before .before .before .before .before .before .before .before .before .before .before .before .before .before .before .before .before .before .before .before .before .before .before .before .before .before .before .before .before .batch .kept .1 .1 .1 .1 .1 .1 .0
 
 descend-same-length-5 : (t : ℕ) → descend-lts.Need-same-length-5 (descend-rs t) (descend-at t) descend.Post
 descend-same-length-5 t c = c .before .before .before .before .before .before .before .before .before .before .before .before .before .before .before .before .before .before .enter .kept .1 .1 .1 .1 .1 .1 .1 .1 .1 .1 .1 .1 .1 .1 .1 .1 .1 .0
@@ -240,7 +240,7 @@ descend-returns-2 t c =
     let there = not-false _ (c .before .before .before .before .before .before .before .before .before .before .before .before .before .before .before .before .before .before .before .before .before .before .before .before .before .before .before .before .before .before .before .before .before .before .before .if1 .left) in
     let long : length (a .word) ≡ wordPlaces = search (needs, s .good .1 .1 .1 .1 .1 .1 .1 .1 .1 .1 .1 .1 .1 .1 .1 .1 .1 .1 .1 .1 .1 .1 .1 .1 .1 .1 .1 .1 .1 .1 .1 .1 .0) in (
       c .before .before .before .before .before .before .before .before .before .before .before .before .before .before .before .before .before .before .enter .ensures .0 ∙ ap (tallied (passesIn (now (a .rows)) (now (a .masks)) (now (a .coefs)) (now (a .first)) (now (a .endrows)) (now (a .endmasks)) (now (a .endcoefs)) (now (a .endcounts)) (now (a .endfirst)) (a .n)) (a .b) (a .t)) (down-members e some (s .pre .1 .2) long next (c .before .before .before .before .before .before .before .before .before .before .before .before .before .before .before .before .before .before .before .before .before .before .before .before .before .before .before .before .before .before .before .before .before .before .before .before .before .before .reach-next .ensures) there),
-      strode-down e some (next-from e some next) (next-later e some next) (c .before .before .before .before .before .before .before .before .before .before .before .before .before .before .before .before .before .before .before .before .before .before .before .before .before .before .before .before .before .before .before .before .before .before .before .before .before .before .reach-next .ensures) there (c .before .before .before .before .before .before .before .before .before .before .before .before .before .before .before .before .before .before .before .before .before .before .before .before .before .before .before .before .before .before .before .before .fill .ensures) (c .before .before .before .before .before .before .before .before .before .before .before .before .before .before .before .before .before .before .enter .ensures .1),
+      strode-down e some (next-from e some next) (next-later e some next) (c .before .before .before .before .before .before .before .before .before .before .before .before .before .before .before .before .before .before .before .before .before .before .before .before .before .before .before .before .before .before .before .before .before .before .before .before .before .before .reach-next .ensures) there (c .before .before .before .before .before .before .before .before .before .before .before .before .before .before .before .before .before .before .before .before .before .before .before .before .before .before .before .before .before .before .before .before .batch .ensures .filled) (c .before .before .before .before .before .before .before .before .before .before .before .before .before .before .before .before .before .before .enter .ensures .1),
     )
 
 abbrev enter-rs : ℕ → enter-lts.Claims
@@ -504,7 +504,7 @@ pub +branch+descend+enter+visit-spec : {M : Type 1} → statement M
     (descend-reach-next-requires t)
     (descend-same-length t)
     (descend-returns t)
-    (descend-fill-requires t)
+    (descend-batch-requires t)
     (descend-sub-enter t)
     (descend-add-enter t)
     (descend-enter-requires t)

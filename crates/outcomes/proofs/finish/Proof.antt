@@ -30,14 +30,14 @@ returns-2 : tie.Need-returns-2
 returns-2 c =
     let a = c .before .before .before .before .before .before .before .before .before .before .before .before .before .before .before .before .before .args in
     let p = c .before .before .before .before .before .before .before .before .before .before .before .before .before .before .before .before .before .pre in (
-      c .skip .ensures (passesIn (now (a .rows)) (now (a .masks)) (now (a .coefs)) (now (a .first)) (now (a .endrows)) (now (a .endmasks)) (now (a .endcoefs)) (now (a .endcounts)) (now (a .endfirst)) (a .n)) (member (a .root) (a .word) ∷ []) refl (one-passes (passesIn (now (a .rows)) (now (a .masks)) (now (a .coefs)) (now (a .first)) (now (a .endrows)) (now (a .endmasks)) (now (a .endcoefs)) (now (a .endcounts)) (now (a .endfirst)) (a .n)) (member (a .root) (a .word)) (ending-passes p (c .before .before .leads .ensures (a .word) (a .n) (p .letter) (c .before .if2 .taken))))
+      c .skip .ensures (passesIn (now (a .rows)) (now (a .masks)) (now (a .coefs)) (now (a .first)) (now (a .endrows)) (now (a .endmasks)) (now (a .endcoefs)) (now (a .endcounts)) (now (a .endfirst)) (a .n)) (member (a .root) (a .word) ∷ []) refl (one-passes (passesIn (now (a .rows)) (now (a .masks)) (now (a .coefs)) (now (a .first)) (now (a .endrows)) (now (a .endmasks)) (now (a .endcoefs)) (now (a .endcounts)) (now (a .endfirst)) (a .n)) (member (a .root) (a .word)) (ending-passes p (sym (c .before .before .leads .ensures (a .word) (a .n) (p .letter)) ∙ c .before .if2 .taken)))
           ∙ sym (tally-one (passesIn (now (a .rows)) (now (a .masks)) (now (a .coefs)) (now (a .first)) (now (a .endrows)) (now (a .endmasks)) (now (a .endcoefs)) (now (a .endcounts)) (now (a .endfirst)) (a .n)) (a .b) (a .t) (member (a .root) (a .word)))
           ∙ finish-one (now (a .rows)) (now (a .masks)) (now (a .coefs)) (now (a .first)) (passesIn (now (a .rows)) (now (a .masks)) (now (a .coefs)) (now (a .first)) (now (a .endrows)) (now (a .endmasks)) (now (a .endcoefs)) (now (a .endcounts)) (now (a .endfirst)) (a .n)) (a .b) (a .t) (a .root) (a .word) (a .n) (a .c) (now (a .reached)) (a .level .from) (a .level .to) (c .before .before .before .before .ends-all .ensures) (not-false _ (c .before .before .before .if1 .left)),
-      λ k. clean-leads refl (λ w i e. c .before .before .leads .ensures w i e (c .before .if2 .taken)),
+      λ k. clean-leads refl (λ w i e. sym (c .before .before .leads .ensures w i e) ∙ c .before .if2 .taken),
     )
 
 tick-requires : tie.Need-tick-requires
-tick-requires c κs = let p = c .before .before .before .before .before .before .before .before .before .before .before .before .before .before .before .before .before .before .pre in (p .lent, p .hinted, p .rooted)
+tick-requires c κs = let p = c .before .before .before .before .before .before .before .before .before .before .before .before .before .before .before .before .before .before .pre in (p .lent, p .hinted, p .space, p .rooted)
 
 returns-3 : tie.Need-returns-3
 returns-3 c =

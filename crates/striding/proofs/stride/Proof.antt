@@ -23,7 +23,7 @@ mul-share c = omega (arith, c .share .ensures .1)
 lodge-requires : tie.Need-lodge-requires
 lodge-requires c κs =
     let g = c .before .before .before .before .before .before .before .before .before .before .before .before .before .before .before .before .before .before .before .before .pre in
-    (g, shared-out (c .before .before .before .before .before .before .states2 .ensures) (c .before .before .before .before .before .before .before .states .ensures) (g .narrow) (c .before .before .before .before .before .share .ensures .1) (c .before .before .before .before .share2 .ensures .0) (c .before .before .before .before .share2 .ensures .1))
+    (g, shared-out (c .before .before .before .before .before .before .states2 .ensures) (c .before .before .before .before .before .before .before .states .ensures) (g .narrow) (g .small) (c .before .before .before .before .before .share .ensures .2) (c .before .before .before .before .before .share .ensures .1) (c .before .before .before .before .share2 .ensures .0) (c .before .before .before .before .share2 .ensures .1))
 
 returns : tie.Need-returns
 returns c = c .before .before .before .before .before .before .before .before .lodge .ensures

@@ -1,4 +1,4 @@
--- A check that goes on tests the member, if it may. The word, of which a slice is lent, is argument `t17`. Assumes nothing.
+-- A check that goes on tests the member, if it may. The word, of which a slice is lent, is argument `t19`. Assumes nothing.
 use mathlib.Core.Path.{sym, _∙_}
 use native.Mathlib.Omega.{arith}
 use denote.Ref.{now}
@@ -10,41 +10,41 @@ use Rattle.walking.proofs.tick.Statement.{statement}
 use Rattle.walking.proofs.tick.Tie as tie
 
 cast-place : tie.Need-cast-place
-cast-place c = search (needs, c .before .before .before .before .before .before .before .before .before .before .before .before .before .good .1 .1 .1 .1 .1 .1 .1 .1 .1 .1 .1 .1 .1 .1 .1 .1 .1 .0)
+cast-place c = search (needs, c .before .before .before .before .before .before .before .before .before .before .before .before .before .good .1 .1 .1 .1 .1 .1 .1 .1 .1 .1 .1 .1 .1 .1 .1 .1 .1 .1 .1 .0)
 
 add-place : tie.Need-add-place
-add-place c = search (needs, c .before .before .before .before .before .before .before .before .before .before .before .before .before .good .1 .1 .1 .1 .1 .1 .1 .1 .1 .1 .1 .1 .1 .1 .1 .1 .1 .0)
+add-place c = search (needs, c .before .before .before .before .before .before .before .before .before .before .before .before .before .good .1 .1 .1 .1 .1 .1 .1 .1 .1 .1 .1 .1 .1 .1 .1 .1 .1 .1 .1 .0)
 
 returns : tie.Need-returns
 returns c =
     let a = c .before .before .before .before .before .before .before .before .before .before .before .before .before .before .args in
-    tick-used (passesIn (now (a .rows)) (now (a .masks)) (now (a .coefs)) (now (a .first)) (now (a .endrows)) (now (a .endmasks)) (now (a .endcoefs)) (now (a .endcounts)) (now (a .endfirst)) (a .n)) (a .b) (a .t) (a .root) (a .t17) (c .before .enum-told .given .1) (omega (arith, c .if1 .taken))
+    tick-used (passesIn (now (a .rows)) (now (a .masks)) (now (a .coefs)) (now (a .first)) (now (a .endrows)) (now (a .endmasks)) (now (a .endcoefs)) (now (a .endcounts)) (now (a .endfirst)) (a .n)) (a .b) (a .t) (a .root) (a .t19) (c .before .enum-told .given .1) (omega (arith, c .if1 .taken))
 
-slice-aggregate-is-state : tie.Need-slice-aggregate-is-state
-slice-aggregate-is-state c = search (needs, c .before .before .before .before .before .before .before .before .before .before .before .before .before .before .before .good .1 .1 .1 .1 .1 .1 .1 .1 .1 .1 .1 .1 .1 .1 .1 .1 .0)
+slice-aggregate-passes : tie.Need-slice-aggregate-passes
+slice-aggregate-passes c = search (needs, c .before .before .before .before .before .before .before .before .before .before .before .before .before .before .before .good .1 .1 .1 .1 .1 .1 .1 .1 .1 .1 .1 .1 .1 .1 .1 .1 .1 .1 .0)
 
-is-state-requires : tie.Need-is-state-requires
-is-state-requires c κs = c .before .before .before .before .before .before .before .before .before .before .before .before .before .before .before .before .before .pre
+passes-requires : tie.Need-passes-requires
+passes-requires c κs = c .before .before .before .before .before .before .before .before .before .before .before .before .before .before .before .before .before .pre
 
 returns-2 : tie.Need-returns-2
 returns-2 c =
     let a = c .before .before .before .before .before .before .before .before .before .before .before .before .before .before .before .before .before .before .before .before .before .before .before .args in
-    tick-passed (passesIn (now (a .rows)) (now (a .masks)) (now (a .coefs)) (now (a .first)) (now (a .endrows)) (now (a .endmasks)) (now (a .endcoefs)) (now (a .endcounts)) (now (a .endfirst)) (a .n)) (a .b) (a .t) (a .root) (a .t17) (c .before .before .before .before .before .before .before .before .before .before .enum-told .given .1) (omega (arith, c .before .before .before .before .before .before .before .before .before .if1 .left)) (sym (c .before .before .before .before .before .is-state .ensures) ∙ c .if2 .taken)
+    tick-passed (passesIn (now (a .rows)) (now (a .masks)) (now (a .coefs)) (now (a .first)) (now (a .endrows)) (now (a .endmasks)) (now (a .endcoefs)) (now (a .endcounts)) (now (a .endfirst)) (a .n)) (a .b) (a .t) (a .root) (a .t19) (c .before .before .before .before .before .before .before .before .before .before .enum-told .given .1) (omega (arith, c .before .before .before .before .before .before .before .before .before .if1 .left)) (sym (c .before .before .before .before .before .passes .ensures) ∙ c .if2 .taken)
 
 returns-3 : tie.Need-returns-3
 returns-3 c =
     let a = c .before .before .before .before .before .before .before .before .before .before .before .before .before .before .before .before .before .before .before .before .before .before .before .args in
-    tick-missed (passesIn (now (a .rows)) (now (a .masks)) (now (a .coefs)) (now (a .first)) (now (a .endrows)) (now (a .endmasks)) (now (a .endcoefs)) (now (a .endcounts)) (now (a .endfirst)) (a .n)) (a .b) (a .t) (a .root) (a .t17) (c .before .before .before .before .before .before .before .before .before .before .enum-told .given .1) (omega (arith, c .before .before .before .before .before .before .before .before .before .if1 .left)) (sym (c .before .before .before .before .before .is-state .ensures) ∙ c .if2 .left)
+    tick-missed (passesIn (now (a .rows)) (now (a .masks)) (now (a .coefs)) (now (a .first)) (now (a .endrows)) (now (a .endmasks)) (now (a .endcoefs)) (now (a .endcounts)) (now (a .endfirst)) (a .n)) (a .b) (a .t) (a .root) (a .t19) (c .before .before .before .before .before .before .before .before .before .before .enum-told .given .1) (omega (arith, c .before .before .before .before .before .before .before .before .before .if1 .left)) (sym (c .before .before .before .before .before .passes .ensures) ∙ c .if2 .left)
 
 returns-4 : tie.Need-returns-4
 returns-4 c =
     let a = c .before .before .before .before .before .before .before .before .before .before .before .before .before .args in
-    tick-failed (passesIn (now (a .rows)) (now (a .masks)) (now (a .coefs)) (now (a .first)) (now (a .endrows)) (now (a .endmasks)) (now (a .endcoefs)) (now (a .endcounts)) (now (a .endfirst)) (a .n)) (a .b) (a .t) (member (a .root) (a .t17)) (c .enum-told2 .given .1)
+    tick-failed (passesIn (now (a .rows)) (now (a .masks)) (now (a .coefs)) (now (a .first)) (now (a .endrows)) (now (a .endmasks)) (now (a .endcoefs)) (now (a .endcounts)) (now (a .endfirst)) (a .n)) (a .b) (a .t) (member (a .root) (a .t19)) (c .enum-told2 .given .1)
 
 returns-5 : tie.Need-returns-5
 returns-5 c =
     let a = c .before .before .before .before .before .before .before .before .before .before .before .before .before .args in
-    tick-undecided (passesIn (now (a .rows)) (now (a .masks)) (now (a .coefs)) (now (a .first)) (now (a .endrows)) (now (a .endmasks)) (now (a .endcoefs)) (now (a .endcounts)) (now (a .endfirst)) (a .n)) (a .b) (a .t) (member (a .root) (a .t17)) (c .enum-told3 .given .1)
+    tick-undecided (passesIn (now (a .rows)) (now (a .masks)) (now (a .coefs)) (now (a .first)) (now (a .endrows)) (now (a .endmasks)) (now (a .endcoefs)) (now (a .endcounts)) (now (a .endfirst)) (a .n)) (a .b) (a .t) (member (a .root) (a .t19)) (c .enum-told3 .given .1)
 
 pub tick-spec : {M : Type 1} → statement M
 tick-spec =
@@ -54,8 +54,8 @@ tick-spec =
     cast-place
     add-place
     returns
-    slice-aggregate-is-state
-    is-state-requires
+    slice-aggregate-passes
+    passes-requires
     (λ c. search needs)
     (λ c. search needs)
     (λ c. search needs)

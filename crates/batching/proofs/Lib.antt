@@ -1,0 +1,4 @@
+pub mod Grounds
+pub mod Grows
+pub mod Wholes
+pub mod Batches
