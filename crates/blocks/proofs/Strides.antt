@@ -13,7 +13,8 @@ use Rattle.automata.specs.Members.{Member}
 use Rattle.jobs.specs.Reply.{wordPlaces}
 use Rattle.meeting.specs.declared.Level.{Level}
 use Rattle.matching.specs.Levels.{startOf, IsLevel}
-use Rattle.reaching.specs.Reached.{allReached, kidsIn, hasChoice, Gone, NextChoice}
+use Rattle.masks.specs.Next.{NextChoice}
+use Rattle.reaching.specs.Reached.{allReached, kidsIn, hasChoice, Gone}
 use Rattle.reaching.proofs.Spreads.{kept-same, kept-on, kept-less}
 use Rattle.batching.specs.Fill.{Low, Filled}
 use Rattle.batching.proofs.Grows.{low-same, low-on}

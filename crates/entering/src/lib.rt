@@ -3,6 +3,7 @@
 // they are counted in one step.
 use batching::batch;
 use judging::begin_from;
+use masks::next_choice;
 use matching::next_level;
 use meeting::Level;
 use outcomes::CELLS;
@@ -10,7 +11,6 @@ use outcomes::Outcome;
 use outcomes::finish;
 use outcomes::remember;
 use outcomes::skip;
-use reaching::next_choice;
 use reaching::reach;
 use reaching::reach_next;
 use reaching::reach_none;

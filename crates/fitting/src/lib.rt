@@ -6,7 +6,7 @@ use lookup::Found;
 use lookup::has_choice;
 use lookup::transition;
 use meeting::Level;
-use meeting::is_met;
+use meeting::next_met;
 use sharing::shared_choices;
 ghost use mathlib.Core.Path.{_≡_};
 ghost use Prim.Native.Nat.{_-_, _<_};
@@ -18,8 +18,7 @@ ghost use Rattle.verdict.specs.Search.{fitsOne};
 ghost use Rattle.lookup.specs.Lookup.{pairRow, leafOf};
 ghost use Rattle.leafrows.specs.Value.{ampIs, InRange};
 ghost use Rattle.leafrows.specs.Row.{rowAmp};
-ghost use Rattle.meeting.specs.Met.{There};
-ghost use Rattle.meeting.specs.All.{ifMet, metBy, allMet};
+ghost use Rattle.meeting.specs.All.{metBy, allMet};
 ghost use Rattle.sharing.specs.Shared.{hasChoice};
 ghost use Rattle.fitting.specs.Fit.{leavesIn, LeafRow, PairLeaves, RowLeaves, LeafStage};
 
@@ -102,45 +101,6 @@ fn fit_leaves(
     fit_rows(rows, coefs, endrows, endcoefs, i, j)
 }
 
-// The same, if image state s meets end state e.
-fn fit_pair(
-    rows: &[u16],
-    masks: &[u32],
-    coefs: &[i32],
-    first: &[u16],
-    endrows: &[u16],
-    endmasks: &[u32],
-    endcoefs: &[i32],
-    endfirst: &[u16],
-    met: &[u32],
-    wide: u16,
-    c: u8,
-    d: u8,
-    s: u16,
-    e: u16,
-) -> bool
-    requires { ⌜ PairLeaves (now rows) (now masks) (now coefs) (now first) (now endrows) (now endmasks) (now endcoefs) (now endfirst) s e × There wide (length (now met)) s e × (c < choicesMost) × (d < choicesMost) ⌝ }
-    ensures { λ r. ⌜ r ≡ ifMet (leavesIn (now (rows .entry)) (now (masks .entry)) (now (coefs .entry)) (now (first .entry)) (now (endrows .entry)) (now (endmasks .entry)) (now (endcoefs .entry)) (now (endfirst .entry)) c d) wide (now (met .entry)) s e ⌝ }
-{
-    if !is_met(met, wide, s, e) {
-        return true;
-    }
-    fit_leaves(
-        rows,
-        masks,
-        coefs,
-        first,
-        endrows,
-        endmasks,
-        endcoefs,
-        endfirst,
-        c,
-        d,
-        s,
-        e,
-    )
-}
-
 // All end states from `start` up to below `stop` that image state s meets have leaves equal to its own.
 fn fit_state(
     rows: &[u16],
@@ -162,9 +122,9 @@ fn fit_state(
     requires { ⌜ RowLeaves (now rows) (now masks) (now coefs) (now first) (now endrows) (now endmasks) (now endcoefs) (now endfirst) wide (length (now met)) s start stop × (c < choicesMost) × (d < choicesMost) ⌝ }
     ensures { λ r. ⌜ r ≡ metBy (leavesIn (now (rows .entry)) (now (masks .entry)) (now (coefs .entry)) (now (first .entry)) (now (endrows .entry)) (now (endmasks .entry)) (now (endcoefs .entry)) (now (endfirst .entry)) c d) wide (now (met .entry)) s start (stop - start) ⌝ }
 {
-    let mut e = start;
+    let mut e = next_met(met, wide, s, start, stop);
     while e < stop {
-        if !fit_pair(
+        if !fit_leaves(
             rows,
             masks,
             coefs,
@@ -173,8 +133,6 @@ fn fit_state(
             endmasks,
             endcoefs,
             endfirst,
-            met,
-            wide,
             c,
             d,
             s,
@@ -182,7 +140,7 @@ fn fit_state(
         ) {
             return false;
         }
-        e += 1;
+        e = next_met(met, wide, s, e + 1, stop);
     }
     true
 }

@@ -7,13 +7,14 @@ use lookup::transition;
 use meeting::Level;
 use meeting::is_met;
 use meeting::meet;
+use meeting::next_met;
 ghost use mathlib.Core.Path.{_≡_};
 ghost use mathlib.Core.Bool.{true};
 ghost use Prim.Native.Nat.{_-_, _<_, _≤_};
 ghost use lib.ListN.{length, getD};
 ghost use Rattle.automata.specs.Choice.{choicesMost};
 ghost use Rattle.meeting.specs.Met.{isMet, There};
-ghost use Rattle.meeting.specs.All.{ifMet, metBy, allMet};
+ghost use Rattle.meeting.specs.All.{metBy, allMet};
 ghost use Rattle.lookup.specs.Lookup.{pairRow};
 ghost use Rattle.stepping.specs.Step.{KidsThere};
 ghost use Rattle.hinting.specs.Hint.{bothMarked, EndFits, KidsMay, EndRows, KidRows, Hint, PairReady, RowReady, Ground, Marked, MarkedRow, Hinted, RowThere, LevelThere};
@@ -240,28 +241,17 @@ pub fn hint_level(
     }
 }
 
-// The pair is marked, if it is met.
-fn pair_may(may: &[u32], met: &[u32], wide: u16, s: u16, e: u16) -> bool
-    requires { ⌜ There wide (length (now may)) s e × There wide (length (now met)) s e ⌝ }
-    ensures { λ r. ⌜ r ≡ ifMet (isMet wide (now (may .entry))) wide (now (met .entry)) s e ⌝ }
-{
-    if !is_met(met, wide, s, e) {
-        return true;
-    }
-    is_met(may, wide, s, e)
-}
-
 // All end states from `start` up to below `stop` that image state s meets are marked with it.
 fn state_may(may: &[u32], met: &[u32], wide: u16, s: u16, start: u16, stop: u16) -> bool
     requires { ⌜ RowThere wide (length (now may)) (length (now met)) s start stop ⌝ }
     ensures { λ r. ⌜ r ≡ metBy (isMet wide (now (may .entry))) wide (now (met .entry)) s start (stop - start) ⌝ }
 {
-    let mut e = start;
+    let mut e = next_met(met, wide, s, start, stop);
     while e < stop {
-        if !pair_may(may, met, wide, s, e) {
+        if !is_met(may, wide, s, e) {
             return false;
         }
-        e += 1;
+        e = next_met(met, wide, s, e + 1, stop);
     }
     true
 }

@@ -1,3 +1,4 @@
 pub mod Places
 pub mod AllLaws
 pub mod MetLaws
+pub mod NextLaws

@@ -3,7 +3,7 @@
 use mathlib.Core.Path.{_≡_}
 use mathlib.Core.Bool.{Bool, true, false}
 use mathlib.Core.List.{List}
-use Prim.Native.Nat.{ℕ, _+_, _*_, _<_, _≤_}
+use Prim.Native.Nat.{ℕ, _+_, _*_, _<_, _≤_, min}
 use lib.ListN.{getD}
 use Rattle.flags.specs.Flags.{flagAt}
 
@@ -18,6 +18,13 @@ isMet wide met s e = flagAt met (place wide s e)
 pub record There (wide size s e : ℕ) : Type 0 where
   pub long : s * wide + wide ≤ size
   pub narrow : e < wide * 32
+
+-- e is the first end state from `from` up to below `stop` that image state s meets, or `stop`
+pub record NextMet (wide : ℕ) (met : List ℕ) (s from stop e : ℕ) : Type 0 where
+  pub after : min from stop ≤ e
+  pub most : e ≤ stop
+  pub skipped : (f : ℕ) → from ≤ f → f < e → isMet wide met s f ≡ false
+  pub here : e < stop → isMet wide met s e ≡ true
 
 -- the pair is met now, and the other pairs are what they were
 pub record Meeting (wide : ℕ) (met : List ℕ) (s e : ℕ) (met′ : List ℕ) : Type 0 where

@@ -3,10 +3,11 @@
 use flags::clear_words;
 use flags::flag_at;
 use flags::set_flag;
+use masks::next_choice;
 ghost use mathlib.Core.Path.{_≡_};
-ghost use Prim.Native.Nat.{_*_, _≤_, _<_};
+ghost use Prim.Native.Nat.{ℕ, _*_, _≤_, _<_};
 ghost use lib.ListN.{length};
-ghost use Rattle.meeting.specs.Met.{place, isMet, There, Meeting, Emptied};
+ghost use Rattle.meeting.specs.Met.{place, isMet, There, NextMet, Meeting, Emptied};
 
 // The states of one level: the image's from `from` up to below `to`, and the end set's from `start` up to below `stop`.
 pub struct Level {
@@ -29,6 +30,25 @@ pub fn is_met(met: &[u32], wide: u16, s: u16, e: u16) -> bool
     ensures { λ r. ⌜ r ≡ isMet wide (now (met .entry)) s e ⌝ }
 {
     flag_at(met, place(wide, s, e))
+}
+
+// The first end state from `from` up to below `stop` that image state s meets, or `stop`. The marks of a word are looked at together.
+pub fn next_met(met: &[u32], wide: u16, s: u16, from: u16, stop: u16) -> u16
+    requires { ⌜ ((e : ℕ) → from ≤ e → e < stop → There wide (length (now met)) s e) ⌝ }
+    ensures { λ r. ⌜ NextMet wide (now (met .entry)) s from stop r ⌝ }
+{
+    let row = (s as usize) * (wide as usize);
+    let to = stop as u32;
+    let mut e = from as u32;
+    while e < to {
+        let at = e / 32;
+        let b = next_choice(met[row + at as usize], (e % 32) as u8);
+        e = at * 32 + b as u32;
+        if b < 32 {
+            return if e < to { e as u16 } else { stop };
+        }
+    }
+    stop
 }
 
 // Image state s meets end state e from now on. The other pairs are as they were.

@@ -7,7 +7,7 @@ use mathlib.Core.Option.{Option, none, some}
 use Prim.Native.Nat.{ℕ, _+_, _-_, _*_, _<_, _≤_}
 use lib.Dec.{eqb}
 use lib.ListN.{length, getD}
-use Rattle.automata.specs.Choice.{choicesMost, has}
+use Rattle.automata.specs.Choice.{has}
 use Rattle.tables.specs.Table.{rowWidth}
 use Rattle.lookup.specs.Lookup.{pairRow, choicesOf}
 use Rattle.meeting.specs.All.{allIn}
@@ -93,11 +93,3 @@ pub record Spread (row : List ℕ) (from to : ℕ) (all : (ℕ → Bool) → Boo
 pub record Gone (row : List ℕ) (from to : ℕ) (all : (ℕ → Bool) → Bool) (row′ : List ℕ) (r : Bool) : Type 0 where
   pub kept : Kept row from row′
   pub is : (g : ℕ → Bool) → r && allReached g row′ from to ≡ all g
-
--- ---- the choices of a mask in turn
--- c is the mask's first choice from `from` on, or 32 where it has none
-pub record NextChoice (mask from c : ℕ) : Type 0 where
-  pub after : from ≤ c
-  pub most : c ≤ choicesMost
-  pub skipped : (d : ℕ) → from ≤ d → d < c → has mask d ≡ false
-  pub here : c < choicesMost → has mask c ≡ true

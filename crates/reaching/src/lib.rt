@@ -2,7 +2,6 @@
 // different numbers, so the states of all levels of a word stand in one row. One choice takes a level's reached states to the next level's.
 use lookup::Found;
 use lookup::choices_of;
-use lookup::has_choice;
 use lookup::transition;
 ghost use mathlib.Core.Path.{_≡_};
 ghost use mathlib.Core.Bool.{_&&_};
@@ -10,7 +9,7 @@ ghost use Prim.Native.Nat.{ℕ, _≤_, _<_};
 ghost use lib.ListN.{length};
 ghost use Rattle.automata.specs.Choice.{choicesMost, has};
 ghost use Rattle.lookup.specs.Lookup.{transitionRow, pairRow, isSome};
-ghost use Rattle.reaching.specs.Reached.{isReached, ifReached, allReached, kidsIn, hasChoice, Reaching, Emptied, KidsThere, Twice, Ready, Stage, Ended, Spread, Gone, NextChoice};
+ghost use Rattle.reaching.specs.Reached.{isReached, ifReached, allReached, kidsIn, hasChoice, Reaching, Emptied, KidsThere, Twice, Ready, Stage, Ended, Spread, Gone};
 
 // A row's places in `rows`.
 const ROW_WIDTH: usize = 3;
@@ -185,19 +184,4 @@ pub fn reached_choices(masks: &[u32], first: &[u16], reached: &[u8], from: u16, 
         s += 1;
     }
     left
-}
-
-// The mask's first choice from `from` on, or 32 where it has none.
-pub fn next_choice(mask: u32, from: u8) -> u8
-    requires { ⌜ from ≤ choicesMost ⌝ }
-    ensures { λ r. ⌜ NextChoice mask from r ⌝ }
-{
-    let mut c = from;
-    while c < 32 {
-        if has_choice(mask, c) {
-            return c;
-        }
-        c += 1;
-    }
-    c
 }

@@ -17,8 +17,11 @@ and-true true = refl
 and-true false = refl
 
 module _ (f : ℕ → Bool) (b : Bool) (from : ℕ) where
+  pub share-true : (count : ℕ) → allIn f from count ≡ true → b ≡ b && allIn f from count
+  share-true count h = sym (ap (λ (x : Bool). b && x) h ∙ and-true b)
+
   pub share-none : b ≡ b && allIn f from (from - from)
-  share-none = sym (ap (λ (x : Bool). b && x) (all-none f from (from - from) (omega arith)) ∙ and-true b)
+  share-none = share-true (from - from) (all-none f from (from - from) (omega arith))
 
   pub share-more : (i : ℕ) {x y : Bool} → from ≤ i → x ≡ b && allIn f from (i - from) → y ≡ x && f i → y ≡ b && allIn f from (i + 1 - from)
   share-more i h p q = q ∙ ap (λ (z : Bool). z && f i) p ∙ and-assoc b (allIn f from (i - from)) (f i) ∙ ap (λ (z : Bool). b && z) (sym (all-more f from i h))

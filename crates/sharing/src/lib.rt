@@ -1,36 +1,17 @@
 // The choices that all end states met on a level have: no other choice of the end set can give all pairs equal trees, so that only these are tried.
 use lookup::choices_of;
 use meeting::Level;
-use meeting::is_met;
+use meeting::next_met;
 ghost use mathlib.Core.Path.{_≡_};
 ghost use mathlib.Core.Bool.{_&&_};
 ghost use Prim.Native.Nat.{ℕ, _-_, _<_};
 ghost use lib.ListN.{length};
 ghost use Rattle.automata.specs.Choice.{choicesMost, has};
-ghost use Rattle.meeting.specs.All.{ifMet, metBy, allMet};
-ghost use Rattle.sharing.specs.Shared.{hasChoice, Open, RowOpen, LevelOpen};
+ghost use Rattle.meeting.specs.All.{metBy, allMet};
+ghost use Rattle.sharing.specs.Shared.{hasChoice, RowOpen, LevelOpen};
 
 // Every choice.
 const ALL: u32 = 4294967295;
-
-// The mask with the choices of end state e only, if image state s meets it.
-fn shared_pair(
-    endmasks: &[u32],
-    endfirst: &[u16],
-    met: &[u32],
-    wide: u16,
-    s: u16,
-    e: u16,
-    mask: u32,
-) -> u32
-    requires { ⌜ Open (now endmasks) (now endfirst) wide (length (now met)) s e ⌝ }
-    ensures { λ r. ⌜ ((d : ℕ) → has r d ≡ has mask d && ifMet (hasChoice (now (endmasks .entry)) (now (endfirst .entry)) d) wide (now (met .entry)) s e) ⌝ }
-{
-    if !is_met(met, wide, s, e) {
-        return mask;
-    }
-    mask & choices_of(endmasks, endfirst, e)
-}
 
 // The mask with the choices only that all end states from `start` up to below `stop` that image state s meets have.
 fn shared_state(
@@ -47,10 +28,10 @@ fn shared_state(
     ensures { λ r. ⌜ ((d : ℕ) → has r d ≡ has mask d && metBy (hasChoice (now (endmasks .entry)) (now (endfirst .entry)) d) wide (now (met .entry)) s start (stop - start)) ⌝ }
 {
     let mut left = mask;
-    let mut e = start;
+    let mut e = next_met(met, wide, s, start, stop);
     while e < stop {
-        left = shared_pair(endmasks, endfirst, met, wide, s, e, left);
-        e += 1;
+        left = left & choices_of(endmasks, endfirst, e);
+        e = next_met(met, wide, s, e + 1, stop);
     }
     left
 }

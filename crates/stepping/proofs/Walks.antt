@@ -33,19 +33,19 @@ module _ (F : (ℕ → ℕ → Bool) → ℕ → Bool) (wide : ℕ) (met : List 
   abbrev pub Walked : ℕ → List ℕ → Bool → Type 0
   Walked i mid r = Stepped wide met next (λ g. allIn (F g) from (i - from)) mid r
 
+  pub walk-true : (i : ℕ) → ((g : ℕ → ℕ → Bool) → allIn (F g) from (i - from) ≡ true) → Walked i met true
+  walk-true i h = record { kept = kept-same wide met (next .from); is = λ g. sym (ap (λ (b : Bool). b && allMet g wide met next) (h g)) }
+
   pub walk-none : Walked from met true
-  walk-none = record {
-    kept = kept-same wide met (next .from);
-    is = λ g. sym (ap (λ (b : Bool). b && allMet g wide met next) (all-none (F g) from (from - from) (omega arith)));
-  }
+  walk-none = walk-true from (λ g. all-none (F g) from (from - from) (omega arith))
+
+  pub walk-as : {mid : List ℕ} {r : Bool} (i j : ℕ) → ((g : ℕ → ℕ → Bool) → allIn (F g) from (j - from) ≡ allIn (F g) from (i - from)) → Walked i mid r → Walked j mid r
+  walk-as i j same w = record { kept = w .kept; is = λ g. w .is g ∙ ap (λ (b : Bool). b && allMet g wide met next) (sym (same g)) }
 
   pub walk-all : {mid : List ℕ} (to i : ℕ) → to ≤ i → i ≤ max from to → Walked i mid true → Walked to mid true
-  walk-all to i h k w = record {
-    kept = w .kept;
-    is = λ g. w .is g ∙ ap (λ (n : ℕ). allIn (F g) from n && allMet g wide met next) (same (decLt to from));
-  }
+  walk-all to i h k w = walk-as i to (λ g. ap (allIn (F g) from) (same (decLt to from))) w
     where
-      same : Dec (to < from) → i - from ≡ to - from
+      same : Dec (to < from) → to - from ≡ i - from
       same (yes l) = omega arith
       same (no l) = omega arith
 
@@ -72,7 +72,7 @@ module _ (F : (ℕ → ℕ → Bool) → ℕ → Bool) (wide : ℕ) (met : List 
     }
 
 -- ---- the pairs of one image state, whose marks are kept
-pub same-pair : (K : (ℕ → ℕ → Bool) → ℕ → ℕ → Bool) {wide : ℕ} {met mid : List ℕ} {from : ℕ} → Kept wide met from mid → (s e : ℕ) → s < from → e < wide * 32
+same-pair : (K : (ℕ → ℕ → Bool) → ℕ → ℕ → Bool) {wide : ℕ} {met mid : List ℕ} {from : ℕ} → Kept wide met from mid → (s e : ℕ) → s < from → e < wide * 32
     → (g : ℕ → ℕ → Bool) → ifMet (K g) wide mid s e ≡ ifMet (K g) wide met s e
 same-pair K k s e before small g = ap (λ (b : Bool). cond b (K g s e) true) (k .each s e before small)
 

@@ -3,15 +3,15 @@
 use lookup::Found;
 use lookup::transition;
 use meeting::Level;
-use meeting::is_met;
 use meeting::meet;
 use meeting::meet_none;
+use meeting::next_met;
 ghost use mathlib.Core.Path.{_≡_};
 ghost use Prim.Native.Nat.{_-_, _<_};
 ghost use lib.ListN.{length};
 ghost use Rattle.automata.specs.Choice.{choicesMost};
 ghost use Rattle.lookup.specs.Lookup.{pairRow};
-ghost use Rattle.meeting.specs.All.{ifMet, metBy, allMet};
+ghost use Rattle.meeting.specs.All.{metBy, allMet};
 ghost use Rattle.stepping.specs.Step.{kidsIn, KidsThere, Twice, Ready, RowReady, Stage, Stepped, Gone};
 
 // A row's places in `rows`.
@@ -59,44 +59,6 @@ fn step_kids(
     true
 }
 
-// One pair, if it is met.
-fn step_pair(
-    rows: &[u16],
-    masks: &[u32],
-    first: &[u16],
-    endrows: &[u16],
-    endmasks: &[u32],
-    endfirst: &[u16],
-    met: &mut [u32],
-    wide: u16,
-    c: u8,
-    d: u8,
-    s: u16,
-    e: u16,
-) -> bool
-    requires { ⌜ ((next : Level) × Ready (now rows) (now masks) (now first) (now endrows) (now endmasks) (now endfirst) wide (length (now met)) s e next) × (c < choicesMost) × (d < choicesMost) ⌝ }
-    ensures { λ r. ⌜ ((next : Level) → Ready (now (rows .entry)) (now (masks .entry)) (now (first .entry)) (now (endrows .entry)) (now (endmasks .entry)) (now (endfirst .entry)) wide (length (now (met .entry))) s e next
-        → Stepped wide (now (met .entry)) next (λ g. ifMet (kidsIn (now (rows .entry)) (now (masks .entry)) (now (first .entry)) (now (endrows .entry)) (now (endmasks .entry)) (now (endfirst .entry)) c d g) wide (now (met .entry)) s e) (now (met .exit)) r) ⌝ }
-{
-    if !is_met(met, wide, s, e) {
-        return true;
-    }
-    step_kids(
-        rows,
-        masks,
-        first,
-        endrows,
-        endmasks,
-        endfirst,
-        met,
-        wide,
-        c,
-        d,
-        s,
-        e,
-    )
-}
-
 // All end states of the level that image state s meets.
 fn step_state(
     rows: &[u16],
@@ -118,9 +80,9 @@ fn step_state(
         → Stepped wide (now (met .entry)) next (λ g. metBy (kidsIn (now (rows .entry)) (now (masks .entry)) (now (first .entry)) (now (endrows .entry)) (now (endmasks .entry)) (now (endfirst .entry)) c d g)
         wide (now (met .entry)) s start (stop - start)) (now (met .exit)) r) ⌝ }
 {
-    let mut e = start;
+    let mut e = next_met(met, wide, s, start, stop);
     while e < stop {
-        if !step_pair(
+        if !step_kids(
             rows,
             masks,
             first,
@@ -136,7 +98,7 @@ fn step_state(
         ) {
             return false;
         }
-        e += 1;
+        e = next_met(met, wide, s, e + 1, stop);
     }
     true
 }

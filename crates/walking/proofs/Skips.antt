@@ -15,7 +15,8 @@ use Rattle.lookup.specs.Lookup.{pairRow, leafOf, isSome}
 use Rattle.lookup.specs.Alts.{altsFrom, leafAlts, tableAutomaton}
 use Rattle.stepping.specs.Step.{moveIn}
 use Rattle.stepping.proofs.Answers.{has-taken}
-use Rattle.reaching.specs.Reached.{allReached, hasChoice, NextChoice}
+use Rattle.masks.specs.Next.{NextChoice}
+use Rattle.reaching.specs.Reached.{allReached, hasChoice}
 use Rattle.reaching.proofs.ReachLaws.{reached-tells, reached-is}
 use Rattle.walking.specs.Walk.{treesBy, branchOf}
 use Rattle.walking.proofs.Branches.{none-pass}

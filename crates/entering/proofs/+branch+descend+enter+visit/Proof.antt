@@ -38,7 +38,7 @@ use Rattle.entering.proofs.visit.Kinds as visit-kinds
 use Rattle.entering.proofs.+branch+descend+enter+visit.Lts-visit as visit-lts
 use Rattle.batching.proofs.batch.Reads as batch-reads
 use Rattle.matching.proofs.next_level.Reads as next-level-reads
-use Rattle.reaching.proofs.next_choice.Reads as next-choice-reads
+use Rattle.masks.proofs.next_choice.Reads as next-choice-reads
 use Rattle.reaching.proofs.reach_next.Reads as reach-next-reads
 use Rattle.reaching.proofs.reached_choices.Reads as reached-choices-reads
 use Rattle.remembering.proofs.find.Reads as find-reads

@@ -1,54 +1,67 @@
 -- All end states so far pass. Assumes nothing.
-use mathlib.Core.Path.{_≡_, sym, _∙_}
-use mathlib.Core.Bool.{true}
-use Prim.Native.Nat.{ℕ, _+_, _-_, _<_, _≤_, max}
+use mathlib.Core.Path.{sym, _∙_}
+use Prim.Native.Nat.{_-_, _≤_}
 use native.Mathlib.Omega.{arith}
 use denote.Ref.{now}
 use borrow.Author.Needs.{needs}
 use borrow.Author.Tests.{not-true, not-false}
+use Rattle.meeting.proofs.NextLaws.{Passing, pass-first, pass-after, pass-next, pass-stops, pass-all}
 use Rattle.meeting.specs.Met.{isMet}
-use Rattle.meeting.specs.All.{ifMet, metBy}
-use Rattle.meeting.proofs.AllLaws.{all-none, all-on, all-stops, all-done}
 use Rattle.hinting.proofs.state_may.Statement.{statement}
 use Rattle.hinting.proofs.state_may.Tie as tie
 
 abbrev Inv-loop : tie.InvT-loop
-Inv-loop may met wide s start stop e₀ e = (start ≤ e) × (e ≤ max start stop) × (metBy (isMet wide may) wide met s start (e - start) ≡ true)
+Inv-loop may met wide s start stop e₀ e = Passing (isMet wide may) wide met s start stop e
 
 abbrev μ-loop : tie.MeasureT-loop
 μ-loop may met wide s start stop e₀ e = stop - e
 
-loop-holds : tie.Need-loop-holds Inv-loop μ-loop
-unfolding metBy
-loop-holds c =
-    let a = c .before .before .args in
-    (omega arith, omega arith, all-none (ifMet (isMet (a .wide) (now (a .may))) (a .wide) (now (a .met)) (a .s)) (a .start) (a .start - a .start) (omega arith))
+next-met-requires : tie.Need-next-met-requires Inv-loop μ-loop
+next-met-requires c κs = λ e lo hi. c .before .before .pre .each e lo hi .1
 
-pair-may-requires : tie.Need-pair-may-requires Inv-loop μ-loop
-pair-may-requires c κs = c .before .before .before .before .pre .each (c .before .loop .e) (c .before .loop .inv .0) (c .loop-test .taken)
+loop-holds : tie.Need-loop-holds Inv-loop μ-loop
+loop-holds c =
+    let a = c .before .before .before .args in
+    pass-first (isMet (a .wide) (now (a .may))) (a .wide) (now (a .met)) (a .s) (a .start) (a .stop) (c .next-met .ensures)
+
+is-met-requires : tie.Need-is-met-requires Inv-loop μ-loop
+is-met-requires c κs =
+    let l = c .before .loop in
+    let s = c .before .before .before .before .before in
+    let a = s .args in
+    let lo : a .start ≤ l .e = pass-after (isMet (a .wide) (now (a .may))) (a .wide) (now (a .met)) (a .s) (a .start) (a .stop) (l .inv) (c .loop-test .taken) in
+    s .pre .each (l .e) lo (c .loop-test .taken) .0
 
 returns : tie.Need-returns Inv-loop μ-loop
-unfolding metBy
 returns c =
     let t = c .before .before in
-    let l = t .before .loop in
-    let a = t .before .before .before .before .args in
-    all-stops (ifMet (isMet (a .wide) (now (a .may))) (a .wide) (now (a .met)) (a .s)) (a .start) (l .e) (a .stop) (l .inv .0) (t .loop-test .taken) (sym (c .before .pair-may .ensures) ∙ not-true _ (c .if1 .taken))
+    let a = t .before .before .before .before .before .args in
+    pass-stops (isMet (a .wide) (now (a .may))) (a .wide) (now (a .met)) (a .s) (a .start) (a .stop) (t .before .loop .inv) (t .loop-test .taken) (sym (c .before .is-met .ensures) ∙ not-true _ (c .if1 .taken))
+
+next-met-requires-2 : tie.Need-next-met-requires-2 Inv-loop μ-loop
+next-met-requires-2 c κs =
+    let t = c .before .before in
+    let s = t .before .before .before .before .before in
+    let a = s .args in
+    let lo : a .start ≤ t .before .loop .e = pass-after (isMet (a .wide) (now (a .may))) (a .wide) (now (a .met)) (a .s) (a .start) (a .stop) (t .before .loop .inv) (t .loop-test .taken) in
+    λ e after hi. s .pre .each e (omega arith) hi .1
+
+loop-less : tie.Need-loop-less Inv-loop μ-loop
+loop-less c = omega (arith, c .next-met2 .ensures .after, c .before .before .before .loop-test .taken)
 
 loop-again : tie.Need-loop-again Inv-loop μ-loop
-unfolding metBy
 loop-again c =
-    let t = c .before .before in
-    let l = t .before .loop in
-    let a = t .before .before .before .before .args in
-    (omega arith, omega arith, all-on (ifMet (isMet (a .wide) (now (a .may))) (a .wide) (now (a .met)) (a .s)) (a .start) (l .e) (l .inv .0) (l .inv .2) (sym (c .before .pair-may .ensures) ∙ not-false _ (c .if1 .left)))
+    let k = c .before .before in
+    let t = k .before in
+    let a = t .before .before .before .before .before .args in
+    pass-next (isMet (a .wide) (now (a .may))) (a .wide) (now (a .met)) (a .s) (a .start) (a .stop) (t .before .loop .inv) (t .loop-test .taken) (sym (k .is-met .ensures) ∙ not-false _ (c .before .if1 .left)) (c .next-met2 .ensures)
 
 returns-2 : tie.Need-returns-2 Inv-loop μ-loop
-unfolding metBy
 returns-2 c =
-    let l = c .before .loop in
-    let a = c .before .before .before .before .args in
-    all-done (ifMet (isMet (a .wide) (now (a .may))) (a .wide) (now (a .met)) (a .s)) (a .start) (l .e) (a .stop) (c .loop-test .left) (l .inv .1) (l .inv .2)
+    let a = c .before .before .before .before .before .args in
+    pass-all (isMet (a .wide) (now (a .may))) (a .wide) (now (a .met)) (a .s) (a .start) (a .stop) (c .before .loop .inv) (c .loop-test .left)
 
 pub state-may-spec : {M : Type 1} → statement M
-state-may-spec = tie.close (tie.spec Inv-loop μ-loop loop-holds pair-may-requires returns (λ c. search needs) (λ c. search needs) loop-again returns-2)
+state-may-spec =
+    tie.close
+    (tie.spec Inv-loop μ-loop next-met-requires loop-holds is-met-requires returns (λ c. search needs) next-met-requires-2 loop-less loop-again returns-2)
