@@ -1,10 +1,8 @@
 -- The word of a failing start has n+1 choices, n being the start set's: byte 3 of its file. Assumes nothing.
 use mathlib.Core.Path.{_≡_, refl, sym, ap, _∙_}
-use mathlib.Core.List.{List, [], _∷_, List·Memᴰ, List·Memᴰ·head, List·Memᴰ·tail}
-use mathlib.Core.Option.{some}
-use Prim.Native.Nat.{ℕ, zero, suc, _+_, _≤_}
-use native.Mathlib.Omega.{arith}
-use lib.ListN.{getD, getElem?}
+use mathlib.Core.List.{List}
+use Prim.Native.Nat.{ℕ, _+_, _≤_}
+use lib.ListN.{getD}
 use lib.Dec.{eqb, leb}
 use borrow.Author.Tests.{leb-true}
 use Rattle.amplitude.proofs.Equal.{both}
@@ -21,17 +19,11 @@ use Rattle.gates.specs.Refuse.{afterGates}
 use Rattle.gates.proofs.Circuits.{went}
 use Rattle.jobs.specs.Reply.{Reply, replyOf}
 use Rattle.jobs.specs.Check.{Ready, ready, judgeBy, judgeCheck, answer, checkAnswer}
-use Rattle.jobs.proofs.CheckTheorem.{Outcome, outcome}
+use Rattle.jobs.proofs.CheckTheorem.{listed, Outcome, outcome}
 use Rattle.walking.proofs.Verdicts.{word-long}
 use Rattle.lines.proofs.Printed.{Choices}
 
 -- ---- words
-listed : (ms : List Member) (i : ℕ) (m : Member) → getElem? ms i ≡ some m → List·Memᴰ m ms
-listed [] zero m e = let z : _≡_ {A = ℕ} 0 1 = cc in absurd (omega arith)
-listed [] (suc i) m e = let z : _≡_ {A = ℕ} 0 1 = cc in absurd (omega arith)
-listed (x ∷ ms) zero m e = let h : m ≡ x = cc in List·Memᴰ·head h
-listed (x ∷ ms) (suc i) m e = List·Memᴰ·tail (listed ms i m e)
-
 of-outcome : (J : Ready) (b k : ℕ) (r : Reply) → J .start .n + 1 ≡ k → Outcome J b r → Choices k r
 of-outcome J b k _ e (Outcome.all h t) = tt
 of-outcome J b k _ e (Outcome.first i (member r w) h g t u) = word-long (J .start .n) w (is-member (J .start) r w (listed (members (J .start)) i (member r w) g) .word) ∙ e

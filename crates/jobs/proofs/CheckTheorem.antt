@@ -53,6 +53,13 @@ Well J (member r w) = EndsWell J r w
 abbrev pub Elsewhere : Ready → Member → Type 0
 Elsewhere J (member r w) = EndsElsewhere J r w
 
+-- what stands at a place of a list is in the list
+pub listed : (ms : List Member) (i : ℕ) (m : Member) → getElem? ms i ≡ some m → List·Memᴰ m ms
+listed [] zero m e = let z : _≡_ {A = ℕ} 0 1 = cc in absurd (omega arith)
+listed [] (suc i) m e = let z : _≡_ {A = ℕ} 0 1 = cc in absurd (omega arith)
+listed (x ∷ ms) zero m e = let h : m ≡ x = cc in List·Memᴰ·head h
+listed (x ∷ ms) (suc i) m e = List·Memᴰ·tail (listed ms i m e)
+
 module _ (J : Ready) where
   abbrev test : Member → Bool
   test = endsWell (J .start) (J .gates) (J .end)
@@ -78,12 +85,6 @@ module _ (J : Ready) where
   all-well [] h = tt
   all-well (m ∷ ms) h = (well-tells m (h .0), all-well ms (h .1))
 
-  got : (ms : List Member) (i : ℕ) (m : Member) → getElem? ms i ≡ some m → List·Memᴰ m ms
-  got [] zero m e = let z : _≡_ {A = ℕ} 0 1 = cc in absurd (omega arith)
-  got [] (suc i) m e = let z : _≡_ {A = ℕ} 0 1 = cc in absurd (omega arith)
-  got (x ∷ ms) zero m e = let h : m ≡ x = cc in List·Memᴰ·head h
-  got (x ∷ ms) (suc i) m e = List·Memᴰ·tail (got ms i m e)
-
 -- ---- what the reply says of the starts, in their fixed order
 pub data Outcome (J : Ready) (b : ℕ) : Reply → Type 0 where
   all : length (members (J .start)) ≤ b → Each (Well J) (members (J .start)) → Outcome J b (says (holds (length (members (J .start)))))
@@ -100,7 +101,7 @@ outcome J b = go (examine (test J) 0 b (members (J .start))) (told (test J) 0 b 
         rw e (all (t .1) (all-well J (members (J .start)) (t .2)))
     go (fails k m) t =
         let e : k ≡ suc (t .0) = t .1 ∙ zero-add (suc (t .0)) in
-        rw e (first (t .0) m (t .2) (t .3) (elsewhere-tells J m (got J (members (J .start)) (t .0) m (t .3)) (t .4)) (all-well J (take (t .0) (members (J .start))) (t .5)))
+        rw e (first (t .0) m (t .2) (t .3) (elsewhere-tells J m (listed (members (J .start)) (t .0) m (t .3)) (t .4)) (all-well J (take (t .0) (members (J .start))) (t .5)))
     go (undecided k) t =
         let e : k ≡ b = t .0 ∙ zero-add b in
         rw e (some-left (t .1) (all-well J (take b (members (J .start))) (t .2)))
