@@ -1,1 +1,1 @@
-mod NextLaws
+pub mod NextLaws

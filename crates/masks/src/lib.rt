@@ -20,6 +20,8 @@ pub fn next_choice(mask: u32, from: u8) -> u8
         return 32;
     }
     let rest = mask >> (from as u32);
-    let c = from + least_choice(rest) as u8;
-    if c < 32 { c } else { 32 }
+    if rest == 0 {
+        return 32;
+    }
+    from + least_choice(rest) as u8
 }

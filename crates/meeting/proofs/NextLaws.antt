@@ -32,26 +32,26 @@ module _ (wide : ℕ) (met : List ℕ) (s : ℕ) where
   pub start : (from : ℕ) → Passed from from
   start from = record { after = omega arith; skipped = λ f lo hi. absurd (omega arith) }
 
-  module _ {from e b : ℕ} (w : Passed from e) (next : NextChoice (getD met (s * wide + e / 32) 0) (e % 32) b) where
-    pub passed : Passed from (e / 32 * 32 + b)
+  module _ {from e b : ℕ} (w : Passed from e) (next : NextChoice (getD met (s * wide + e / 32) 0) (e % 32) b) {f : ℕ} (at : f ≡ e / 32 * 32 + b) where
+    pub passed : Passed from f
     passed =
         let a = w .after in
         let l = next .after in
-        record { after = omega arith; skipped = λ f lo hi. go f lo hi (decLt f e) }
+        record { after = omega arith; skipped = λ i lo hi. go i lo hi (decLt i e) }
       where
-        go : (f : ℕ) → from ≤ f → f < e / 32 * 32 + b → Dec (f < e) → isMet wide met s f ≡ false
-        go f lo hi (yes l) = w .skipped f lo l
-        go f lo hi (no l) =
+        go : (i : ℕ) → from ≤ i → i < f → Dec (i < e) → isMet wide met s i ≡ false
+        go i lo hi (yes l) = w .skipped i lo l
+        go i lo hi (no l) =
             let m = next .most in
-            let d : f ≡ e / 32 * 32 + f % 32 = omega arith in
-            in-word (e / 32) (f % 32) f d (omega arith) ∙ next .skipped (f % 32) (omega arith) (omega arith)
+            let d : i ≡ e / 32 * 32 + i % 32 = omega arith in
+            in-word (e / 32) (i % 32) i d (omega arith) ∙ next .skipped (i % 32) (omega arith) (omega arith)
 
-    pub found : (stop : ℕ) → b < 32 → e / 32 * 32 + b < stop → NextMet wide met s from stop (e / 32 * 32 + b)
+    pub found : (stop : ℕ) → b < 32 → f < stop → NextMet wide met s from stop f
     found stop small lt = record {
       after = omega (arith, passed .after);
       most = omega arith;
       skipped = passed .skipped;
-      here = λ h. in-word (e / 32) b (e / 32 * 32 + b) refl small ∙ next .here small;
+      here = λ h. in-word (e / 32) b f at small ∙ next .here small;
     }
 
   pub none-left : {from e : ℕ} → Passed from e → (stop : ℕ) → stop ≤ e → NextMet wide met s from stop stop

@@ -3,7 +3,7 @@
 use flags::clear_words;
 use flags::flag_at;
 use flags::set_flag;
-use masks::next_choice;
+use masks::least_choice;
 ghost use mathlib.Core.Path.{_≡_};
 ghost use Prim.Native.Nat.{ℕ, _*_, _≤_, _<_};
 ghost use lib.ListN.{length};
@@ -41,12 +41,12 @@ pub fn next_met(met: &[u32], wide: u16, s: u16, from: u16, stop: u16) -> u16
     let to = stop as u32;
     let mut e = from as u32;
     while e < to {
-        let at = e / 32;
-        let b = next_choice(met[row + at as usize], (e % 32) as u8);
-        e = at * 32 + b as u32;
-        if b < 32 {
+        let rest = met[row + (e / 32) as usize] >> (e % 32);
+        if rest != 0 {
+            e += least_choice(rest);
             return if e < to { e as u16 } else { stop };
         }
+        e = (e / 32 + 1) * 32;
     }
     stop
 }
