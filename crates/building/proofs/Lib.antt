@@ -1,6 +1,5 @@
 pub mod Tails
 pub mod Steps
 pub mod Begins
-pub mod OldLeaves
 pub mod Rounds
 pub mod Climb

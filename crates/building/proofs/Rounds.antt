@@ -24,7 +24,7 @@ use Rattle.ending.specs.Source.{LeafState, LeafKey}
 use Rattle.building.specs.declared.Room.{Room}
 use Rattle.building.specs.Fresh.{Fresh}
 use Rattle.building.specs.Going.{Old, Lists, Going, Rest}
-use Rattle.building.proofs.OldLeaves.{rows-rise, leaf-state}
+use Rattle.ending.proofs.OldLeaves.{rows-rise, leaf-state}
 
 module _ {old oldmasks : List ℕ} {numbers : List ℤ} {first : List ℕ} {states k : ℕ} (t : Old old oldmasks numbers first states k) where
   -- an old state's rows, as the levels of qubits are read

@@ -4,3 +4,4 @@ pub mod Singles
 pub mod Picks
 pub mod Pairs
 pub mod Keys
+pub mod OldLeaves

@@ -21,7 +21,7 @@ use Rattle.tables.proofs.Ordered.{formed-rises}
 use Rattle.lookup.specs.Lookup.{transitionRow, pairRow}
 use Rattle.lookup.specs.Alts.{altsFrom, movesIn}
 use Rattle.lookup.proofs.Finding.{rising, begin, end, rows-there, scan-hits}
-use Rattle.building.proofs.OldLeaves.{tr-at, lf-at, leaf-state}
+use Rattle.ending.proofs.OldLeaves.{tr-at, lf-at, leaf-state}
 use Rattle.stepping.proofs.Answers.{choose-rows}
 use Rattle.stepping.specs.Step.{Kin, Inner}
 use Rattle.fitting.specs.Fit.{Leafy}
