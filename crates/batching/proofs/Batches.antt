@@ -9,9 +9,13 @@ use lib.Dec.{ltb}
 use lib.IntN.{ℤ}
 use lib.ListN.{length, getD}
 use borrow.Author.Tests.{ltb-false}
+use Rattle.automata.specs.Choice.{choicesMost, has}
+use Rattle.masks.specs.Next.{NextChoice}
 use Rattle.lookup.specs.Alts.{tableAutomaton}
 use Rattle.meeting.specs.declared.Level.{Level}
+use Rattle.meeting.specs.All.{allMet}
 use Rattle.meeting.proofs.MetLaws.{Same}
+use Rattle.sharing.specs.Shared.{hasChoice}
 use Rattle.stepping.specs.Step.{Kept}
 use Rattle.matching.specs.Seeking.{tried}
 use Rattle.relating.specs.Found.{planeOf, found}
@@ -19,7 +23,7 @@ use Rattle.relating.proofs.Cells.{kept-marks}
 use Rattle.batching.specs.Fill.{Grown, Filled}
 use Rattle.batching.proofs.Grows.{low-marks, grown-from, Trying, tries, tries-on, filled-none, filled-on}
 use Rattle.batching.specs.Batch.{Wise, Whole, Took, Batched}
-use Rattle.batching.proofs.Wholes.{tried-marks, whole-none, whole-from, whole-on}
+use Rattle.batching.proofs.Wholes.{tried-marks, whole-none, whole-from, whole-skip, whole-on}
 
 -- one of both tests of a loop fails
 pub turned : (i to k most : ℕ) → ltb i to && ltb k most ≡ false → i < to → k < most → ⊥
@@ -53,6 +57,18 @@ module _ {rows masks first endRows endMasks endFirst : List ℕ} {c wide plane :
     most = omega arith;
     still = λ h. absurd (omega (arith, t .least));
     least = omega (arith, t .least);
+  }
+
+  -- on to the next choice that all end states have
+  pub takes-next : {stack row : List ℕ} {d r shared till : ℕ} → Taking rows masks first endRows endMasks endFirst c wide plane may entry q room met l next from stack row d r
+      → ((b : ℕ) → b < choicesMost → has shared b ≡ allMet (hasChoice endMasks endFirst b) wide met l) → NextChoice shared d till
+      → Taking rows masks first endRows endMasks endFirst c wide plane may entry q room met l next from stack row till r
+  takes-next {till = till} t is n = record {
+    trying = t .trying;
+    whole = whole-skip till (λ b lo hi. sym (is b (omega (arith, n .most))) ∙ n .skipped b lo hi) (t .whole);
+    most = n .most;
+    still = λ e. t .still (omega (arith, t .least, n .after));
+    least = omega (arith, t .least, n .after);
   }
 
   pub took : {stack row : List ℕ} {d r : ℕ} → Taking rows masks first endRows endMasks endFirst c wide plane may entry q room met l next from stack row d r → (d < 32 → r < room → ⊥)

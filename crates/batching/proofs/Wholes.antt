@@ -91,10 +91,6 @@ module _ {rows masks first endRows endMasks endFirst : List ℕ} {c wide plane :
         ∙ ap (λ (x : ℕ). tried (tableAutomaton rows masks coefs first) (tableAutomaton endRows endMasks endCoefs endFirst) word at m x wide met l) (sym same) ∙ h));
   }
 
-  -- not all end states have it
-  pub whole-unshared : (d : ℕ) → allMet (hasChoice endMasks endFirst d) wide met l ≡ false → Whole rows masks first endRows endMasks endFirst c wide plane may stack q met l next d (d + 1) stack q
-  whole-unshared d f = vain d (λ coefs endCoefs word at m e w. no-attempt rows masks coefs first endRows endMasks endCoefs endFirst word at m d wide met l f)
-
   module _ (d : ℕ) {met′ : List ℕ} {b : Bool} (g : Gone wide met next (λ h. allMet (kidsIn rows masks first endRows endMasks endFirst c d h) wide met l) met′ b) where
     -- the step fails
     pub whole-failed : b ≡ false → Whole rows masks first endRows endMasks endFirst c wide plane may stack q met l next d (d + 1) stack q
@@ -128,6 +124,21 @@ module _ {rows masks first endRows endMasks endFirst : List ℕ} {c wide plane :
     each = λ coefs endCoefs word at m e k d lo hi h.
         w .each coefs endCoefs word at m e k d lo hi (tried-marks (tableAutomaton rows masks coefs first) (tableAutomaton endRows endMasks endCoefs endFirst) word at m d l s ∙ h);
   }
+
+  -- choices that not all end states have lead to no word
+  pub whole-skip : {stack′ : List ℕ} {from to r : ℕ} (till : ℕ) → ((d : ℕ) → to ≤ d → d < till → allMet (hasChoice endMasks endFirst d) wide met l ≡ false)
+      → Whole rows masks first endRows endMasks endFirst c wide plane may stack q met l next from to stack′ r
+      → Whole rows masks first endRows endMasks endFirst c wide plane may stack q met l next from till stack′ r
+  whole-skip {stack′ = stack′} {to = to} {r = r} till none a =
+      record { keeps = a .keeps; each = λ coefs endCoefs word at m e k d lo hi h. go coefs endCoefs word at m d hi h (λ lt. a .each coefs endCoefs word at m e k d lo lt h) (decLt d to) }
+    where
+      go : (coefs endCoefs : List ℤ) (word : List ℕ) (at m d : ℕ) → d < till
+          → tried (tableAutomaton rows masks coefs first) (tableAutomaton endRows endMasks endCoefs endFirst) word at m d wide met l ≡ true
+          → (d < to → found (tableAutomaton rows masks coefs first) (tableAutomaton endRows endMasks endCoefs endFirst) word (at + 1) m wide plane stack′ r next ≡ true) → Dec (d < to)
+          → found (tableAutomaton rows masks coefs first) (tableAutomaton endRows endMasks endCoefs endFirst) word (at + 1) m wide plane stack′ r next ≡ true
+      go coefs endCoefs word at m d hi h old (yes lt) = old lt
+      go coefs endCoefs word at m d hi h old (no ge) =
+          absurd (false≢true (no-attempt rows masks coefs first endRows endMasks endCoefs endFirst word at m d wide met l (none d (omega arith) hi) ∙ h))
 
   pub whole-on : {mid stack′ : List ℕ} {from to r r′ : ℕ} → Whole rows masks first endRows endMasks endFirst c wide plane may stack q met l next from to mid r
       → Whole rows masks first endRows endMasks endFirst c wide plane may mid r met l next to (to + 1) stack′ r′

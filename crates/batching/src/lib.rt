@@ -2,7 +2,7 @@
 // Between the places where a batch begins and ends no relation is left out that leads to a word and does not stand in the batch, so that a
 // search over all batches is exact.
 use hinting::all_may;
-use lookup::has_choice;
+use masks::next_choice;
 use meeting::Level;
 use relating::cell;
 use relating::copy_out;
@@ -14,9 +14,7 @@ ghost use mathlib.Core.Path.{_≡_};
 ghost use mathlib.Core.Bool.{true};
 ghost use Prim.Native.Nat.{ℕ, _+_, _*_, _<_, _≤_};
 ghost use lib.ListN.{length, getD};
-ghost use Rattle.automata.specs.Choice.{choicesMost, has};
-ghost use Rattle.meeting.specs.All.{allMet};
-ghost use Rattle.sharing.specs.Shared.{hasChoice};
+ghost use Rattle.automata.specs.Choice.{choicesMost};
 ghost use Rattle.stepping.specs.Step.{Kept};
 ghost use Rattle.relating.specs.Found.{planeOf};
 ghost use Rattle.relating.specs.Planes.{Room};
@@ -80,7 +78,7 @@ pub fn join(stack: &mut [u32], plane: u16, q: u16, wide: u16, row: &[u32], level
 }
 
 // One level down from the relation in `scratch` by choice d of the end set: the relation becomes plane q, unless it leads to no word or stands
-// there already. The planes there are then. `shared` has the choices that all end states met in `scratch` have.
+// there already. The planes there are then.
 fn take_choice(
     rows: &[u16],
     masks: &[u32],
@@ -98,14 +96,10 @@ fn take_choice(
     d: u8,
     level: Level,
     next: Level,
-    shared: u32,
 ) -> u16
-    requires { ⌜ Ground (now rows) (now masks) (now first) (now endrows) (now endmasks) (now endfirst) wide plane (length (now may)) (length (now scratch)) level next × (q * plane + plane ≤ length (now stack)) × (q < 65535) × (c < choicesMost) × (d < choicesMost) × (has shared d ≡ allMet (hasChoice (now endmasks) (now endfirst) d) wide (now scratch) level) ⌝ }
+    requires { ⌜ Ground (now rows) (now masks) (now first) (now endrows) (now endmasks) (now endfirst) wide plane (length (now may)) (length (now scratch)) level next × (q * plane + plane ≤ length (now stack)) × (q < 65535) × (c < choicesMost) × (d < choicesMost) ⌝ }
     ensures { λ r. ⌜ Grown (now (rows .entry)) (now (masks .entry)) (now (first .entry)) (now (endrows .entry)) (now (endmasks .entry)) (now (endfirst .entry)) c wide plane (now (stack .entry)) q (q + 1) (now (scratch .entry)) level next (now (stack .exit)) r × Kept wide (now (scratch .entry)) (level .to) (now (scratch .exit)) × Whole (now (rows .entry)) (now (masks .entry)) (now (first .entry)) (now (endrows .entry)) (now (endmasks .entry)) (now (endfirst .entry)) c wide plane (now (may .entry)) (now (stack .entry)) q (now (scratch .entry)) level next d (d + 1) (now (stack .exit)) r ⌝ }
 {
-    if !has_choice(shared, d) {
-        return q;
-    }
     if !step_down(
         rows,
         masks,
@@ -128,7 +122,7 @@ fn take_choice(
     join(stack, plane, q, wide, scratch, next)
 }
 
-// The same by each choice from `from` on, while there is room.
+// The same by each choice from `from` on that all end states met in `scratch` have, while there is room.
 fn take_choices(
     rows: &[u16],
     masks: &[u32],
@@ -153,7 +147,7 @@ fn take_choices(
 {
     let shared = shared_choices(endmasks, endfirst, scratch, wide, level);
     let mut r = q;
-    let mut d = from;
+    let mut d = next_choice(shared, from);
     while (d < 32) & (r < room) {
         r = take_choice(
             rows,
@@ -172,9 +166,8 @@ fn take_choices(
             d,
             level,
             next,
-            shared,
         );
-        d += 1;
+        d = next_choice(shared, d + 1);
     }
     Turn {
         choice: d,
