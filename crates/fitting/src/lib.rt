@@ -3,8 +3,8 @@ use equality::same;
 use leafrows::Amplitude;
 use leafrows::amplitude_at;
 use lookup::Found;
-use lookup::has_choice;
 use lookup::transition;
+use masks::next_choice;
 use meeting::Level;
 use meeting::next_met;
 use sharing::shared_choices;
@@ -12,14 +12,13 @@ ghost use mathlib.Core.Path.{_≡_};
 ghost use Prim.Native.Nat.{_-_, _<_};
 ghost use lib.ListN.{length};
 ghost use Rattle.amplitude.specs.Leaf.{same};
-ghost use Rattle.automata.specs.Choice.{choicesMost, has};
+ghost use Rattle.automata.specs.Choice.{choicesMost};
 ghost use Rattle.automata.specs.Members.{choices};
 ghost use Rattle.verdict.specs.Search.{fitsOne};
 ghost use Rattle.lookup.specs.Lookup.{pairRow, leafOf};
 ghost use Rattle.leafrows.specs.Value.{ampIs, InRange};
 ghost use Rattle.leafrows.specs.Row.{rowAmp};
 ghost use Rattle.meeting.specs.All.{metBy, allMet};
-ghost use Rattle.sharing.specs.Shared.{hasChoice};
 ghost use Rattle.fitting.specs.Fit.{leavesIn, LeafRow, PairLeaves, RowLeaves, LeafStage};
 
 // A row's places in `rows`.
@@ -193,46 +192,6 @@ fn all_fit(
     true
 }
 
-// The same, where `shared` has the choices that all end states met on the level have: another one is not tried.
-fn fit_choice(
-    rows: &[u16],
-    masks: &[u32],
-    coefs: &[i32],
-    first: &[u16],
-    endrows: &[u16],
-    endmasks: &[u32],
-    endcoefs: &[i32],
-    endfirst: &[u16],
-    met: &[u32],
-    wide: u16,
-    c: u8,
-    d: u8,
-    level: Level,
-    shared: u32,
-) -> bool
-    requires { ⌜ LeafStage (now rows) (now masks) (now coefs) (now first) (now endrows) (now endmasks) (now endcoefs) (now endfirst) wide (length (now met)) level × (c < choicesMost) × (d < choicesMost) × (has shared d ≡ allMet (hasChoice (now endmasks) (now endfirst) d) wide (now met) level) ⌝ }
-    ensures { λ r. ⌜ r ≡ allMet (leavesIn (now (rows .entry)) (now (masks .entry)) (now (coefs .entry)) (now (first .entry)) (now (endrows .entry)) (now (endmasks .entry)) (now (endcoefs .entry)) (now (endfirst .entry)) c d) wide (now (met .entry)) level ⌝ }
-{
-    if !has_choice(shared, d) {
-        return false;
-    }
-    all_fit(
-        rows,
-        masks,
-        coefs,
-        first,
-        endrows,
-        endmasks,
-        endcoefs,
-        endfirst,
-        met,
-        wide,
-        c,
-        d,
-        level,
-    )
-}
-
 // Some one choice of the end set gives all pairs of the level that are met equal leaves.
 pub fn fit_any(
     rows: &[u16],
@@ -252,9 +211,9 @@ pub fn fit_any(
     ensures { λ r. ⌜ r ≡ fitsOne (λ d. allMet (leavesIn (now (rows .entry)) (now (masks .entry)) (now (coefs .entry)) (now (first .entry)) (now (endrows .entry)) (now (endmasks .entry)) (now (endcoefs .entry)) (now (endfirst .entry)) c d) wide (now (met .entry)) level) choices ⌝ }
 {
     let shared = shared_choices(endmasks, endfirst, met, wide, level);
-    let mut d: u8 = 0;
+    let mut d = next_choice(shared, 0);
     while d < 32 {
-        if fit_choice(
+        if all_fit(
             rows,
             masks,
             coefs,
@@ -268,11 +227,10 @@ pub fn fit_any(
             c,
             d,
             level,
-            shared,
         ) {
             return true;
         }
-        d += 1;
+        d = next_choice(shared, d + 1);
     }
     false
 }

@@ -1,6 +1,7 @@
--- The choices left to try come to all of them. Assumes nothing.
-use mathlib.Core.Path.{_≡_, refl, sym, _∙_}
-use Prim.Native.Nat.{ℕ, _+_, _-_, _<_, _≤_}
+-- The choices left to try come to all of them: one that not all end states met have cannot fit. Assumes nothing.
+use mathlib.Core.Path.{_≡_, sym, _∙_}
+use mathlib.Core.Bool.{Bool}
+use Prim.Native.Nat.{ℕ, _-_}
 use native.Mathlib.Omega.{arith}
 use denote.Ref.{now}
 use borrow.Author.Needs.{needs}
@@ -8,8 +9,8 @@ use Rattle.automata.specs.Members.{choices, upTo}
 use Rattle.verdict.specs.Search.{fitsOne}
 use Rattle.meeting.specs.All.{allMet}
 use Rattle.fitting.specs.Fit.{leavesIn}
-use Rattle.fitting.proofs.Leaves.{level-open}
-use Rattle.fitting.proofs.Tries.{try-here, try-on, try-none}
+use Rattle.fitting.proofs.Leaves.{no-choice, level-open}
+use Rattle.fitting.proofs.Tries.{try-here, try-on, try-none, try-next}
 use Rattle.fitting.proofs.fit_any.Statement.{statement}
 use Rattle.fitting.proofs.fit_any.Tie as tie
 
@@ -24,33 +25,44 @@ shared-choices-requires : tie.Need-shared-choices-requires Inv-loop μ-loop
 shared-choices-requires c κs = level-open (c .before .before .before .before .before .before .before .pre .0)
 
 loop-holds : tie.Need-loop-holds Inv-loop μ-loop
-loop-holds c = refl
+loop-holds c =
+    let a = c .before .before .before .before .before .before .before .before .before .args in
+    let f : ℕ → Bool = (λ (d : ℕ). allMet (leavesIn (now (a .rows)) (now (a .masks)) (now (a .coefs)) (now (a .first)) (now (a .endrows)) (now (a .endmasks)) (now (a .endcoefs)) (now (a .endfirst)) (a .c) d) (a .wide) (now (a .met)) (a .level)) in
+    try-next f (c .next-choice .ensures)
+    (λ b small none. no-choice (now (a .rows)) (now (a .masks)) (now (a .coefs)) (now (a .first)) (now (a .endrows)) (now (a .endmasks)) (now (a .endcoefs)) (now (a .endfirst)) (a .c) b (a .wide) (now (a .met)) (a .level) (sym (c .before .shared-choices .ensures b small) ∙ none))
 
-fit-choice-requires : tie.Need-fit-choice-requires Inv-loop μ-loop
-fit-choice-requires c κs =
-    let l = c .before in
-    let p = l .before .before .before .before .before .before .before .before .before .pre in
-    (p .0, p .1, c .loop-test .taken, l .before .shared-choices .ensures (l .loop .d) (c .loop-test .taken))
+all-fit-requires : tie.Need-all-fit-requires Inv-loop μ-loop
+all-fit-requires c κs = let p = c .before .before .before .before .before .before .before .before .before .before .before .pre in (p .0, p .1, c .loop-test .taken)
 
 returns : tie.Need-returns Inv-loop μ-loop
 returns c =
     let t = c .before .before in
     let l = t .before .loop in
-    let a = t .before .before .before .before .before .before .before .before .before .before .args in
-    sym (try-here (λ (d : ℕ). allMet (leavesIn (now (a .rows)) (now (a .masks)) (now (a .coefs)) (now (a .first)) (now (a .endrows)) (now (a .endmasks)) (now (a .endcoefs)) (now (a .endfirst)) (a .c) d) (a .wide) (now (a .met)) (a .level)) 32 (l .d) (t .loop-test .taken) (sym (c .before .fit-choice .ensures) ∙ c .if1 .taken)) ∙ l .inv
+    let a = t .before .before .before .before .before .before .before .before .before .before .before .args in
+    let f : ℕ → Bool = (λ (d : ℕ). allMet (leavesIn (now (a .rows)) (now (a .masks)) (now (a .coefs)) (now (a .first)) (now (a .endrows)) (now (a .endmasks)) (now (a .endcoefs)) (now (a .endfirst)) (a .c) d) (a .wide) (now (a .met)) (a .level)) in
+    sym (try-here f 32 (l .d) (t .loop-test .taken) (sym (c .before .all-fit .ensures) ∙ c .if1 .taken)) ∙ l .inv
+
+loop-less : tie.Need-loop-less Inv-loop μ-loop
+loop-less c = omega (arith, c .before .before .before .loop-test .taken, c .next-choice2 .ensures .after)
 
 loop-again : tie.Need-loop-again Inv-loop μ-loop
 loop-again c =
-    let t = c .before .before in
+    let t = c .before .before .before in
     let l = t .before .loop in
-    let a = t .before .before .before .before .before .before .before .before .before .before .args in
-    try-on (λ (d : ℕ). allMet (leavesIn (now (a .rows)) (now (a .masks)) (now (a .coefs)) (now (a .first)) (now (a .endrows)) (now (a .endmasks)) (now (a .endcoefs)) (now (a .endfirst)) (a .c) d) (a .wide) (now (a .met)) (a .level)) 32 (l .d) (t .loop-test .taken) (sym (c .before .fit-choice .ensures) ∙ c .if1 .left) ∙ l .inv
+    let a = t .before .before .before .before .before .before .before .before .before .before .before .args in
+    let f : ℕ → Bool = (λ (d : ℕ). allMet (leavesIn (now (a .rows)) (now (a .masks)) (now (a .coefs)) (now (a .first)) (now (a .endrows)) (now (a .endmasks)) (now (a .endcoefs)) (now (a .endfirst)) (a .c) d) (a .wide) (now (a .met)) (a .level)) in
+    try-next f (c .next-choice2 .ensures)
+    (λ b small none. no-choice (now (a .rows)) (now (a .masks)) (now (a .coefs)) (now (a .first)) (now (a .endrows)) (now (a .endmasks)) (now (a .endcoefs)) (now (a .endfirst)) (a .c) b (a .wide) (now (a .met)) (a .level) (sym (t .before .before .before .shared-choices .ensures b small) ∙ none))
+    ∙ try-on f 32 (l .d) (t .loop-test .taken) (sym (c .before .before .all-fit .ensures) ∙ c .before .if1 .left) ∙ l .inv
 
 returns-2 : tie.Need-returns-2 Inv-loop μ-loop
 returns-2 c =
     let l = c .before .loop in
-    let a = c .before .before .before .before .before .before .before .before .before .before .args in
-    sym (try-none (λ (d : ℕ). allMet (leavesIn (now (a .rows)) (now (a .masks)) (now (a .coefs)) (now (a .first)) (now (a .endrows)) (now (a .endmasks)) (now (a .endcoefs)) (now (a .endfirst)) (a .c) d) (a .wide) (now (a .met)) (a .level)) 32 (l .d) (c .loop-test .left)) ∙ l .inv
+    let a = c .before .before .before .before .before .before .before .before .before .before .before .args in
+    let f : ℕ → Bool = (λ (d : ℕ). allMet (leavesIn (now (a .rows)) (now (a .masks)) (now (a .coefs)) (now (a .first)) (now (a .endrows)) (now (a .endmasks)) (now (a .endcoefs)) (now (a .endfirst)) (a .c) d) (a .wide) (now (a .met)) (a .level)) in
+    sym (try-none f 32 (l .d) (c .loop-test .left)) ∙ l .inv
 
 pub fit-any-spec : {M : Type 1} → statement M
-fit-any-spec = tie.close (tie.spec Inv-loop μ-loop shared-choices-requires loop-holds fit-choice-requires returns (λ c. search needs) (λ c. search needs) loop-again returns-2)
+fit-any-spec =
+    tie.close
+    (tie.spec Inv-loop μ-loop shared-choices-requires (λ c κs. search needs) loop-holds all-fit-requires returns (λ c. search needs) (λ c κs. search needs) loop-less loop-again returns-2)
