@@ -181,12 +181,6 @@ module _ {rows masks : List ℕ} {coefs : List ℤ} {counts first endRows endMas
         there = λ s e lo hi lo′ hi′. record { long = omega (arith, words-before wide s (l .to) hi, long-level 0 t); narrow = omega (arith, small-level 0 t) };
       }
 
--- the choices that all end states have do not change with marks of other levels
-pub shared-same : (endMasks endFirst : List ℕ) (d : ℕ) {wide : ℕ} {met met′ : List ℕ} (l : Level) → l .stop ≤ wide * 32 → Kept wide met (l .to) met′
-    → allMet (hasChoice endMasks endFirst d) wide met l ≡ allMet (hasChoice endMasks endFirst d) wide met′ l
-shared-same endMasks endFirst d {wide} {met} {met′} l small k =
-    sym (met-same (hasChoice endMasks endFirst d) (hasChoice endMasks endFirst d) wide met met′ l (record { each = λ s e on. k .each s e (on .before) (omega (arith, on .endBefore)) }) (λ s e on. refl))
-
 -- the same in a row of marks as long, and of as many levels
 pub again : {rows masks : List ℕ} {coefs : List ℤ} {counts first endRows endMasks : List ℕ} {endCoefs : List ℤ} {endCounts endFirst word : List ℕ} {wide size size′ at m m′ : ℕ} {l : Level}
     → size′ ≡ size → m′ ≡ m → Seeking rows masks coefs counts first endRows endMasks endCoefs endCounts endFirst word wide size at m l
