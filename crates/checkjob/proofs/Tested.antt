@@ -16,7 +16,7 @@ use Rattle.replies.specs.declared.Reply.{Reply}
 use Rattle.replies.specs.Replied.{replyFrom}
 use Rattle.onegate.specs.Sizes.{rowsSize, masksSize, coefsSize, countsSize, firstSize, keysSize, headsSize}
 use Rattle.answering.specs.Marks.{marksSize, hintsSize}
-use Rattle.fronting.specs.Fronts.{LongTable, LongLists, LongMarks}
+use Rattle.endfronting.specs.Fronts.{LongTable, LongLists, LongMarks}
 use Rattle.checkjob.specs.Sizes.{checkSizes, checkLent}
 
 -- a group of tests before the others

@@ -4,7 +4,7 @@ use mathlib.Core.List.{List, _∷_}
 use Prim.Native.Nat.{ℕ}
 use lib.IntN.{ℤ}
 use Rattle.jobs.specs.Buffers.{Buffer, unsigned, signed, wipedAll}
-use Rattle.fronting.specs.Fronts.{ZeroedTable, ZeroedLists, ZeroedMarks}
+use Rattle.endfronting.specs.Fronts.{ZeroedTable, ZeroedLists, ZeroedMarks}
 use Rattle.checkjob.specs.Sizes.{checkSizes, checkLent}
 
 also : {x y : Buffer} {xs ys : List Buffer} → x ≡ y → xs ≡ ys → x ∷ xs ≡ y ∷ ys

@@ -1,7 +1,7 @@
 // Document 01, the job *Check*: "start, circuit, end, allowance B (32 bits, unsigned), work buffers whose sizes docs/ names". It tests the lent
 // buffers' sizes, lends just their named sizes to the work, and leaves these at zero (docs/BUFFERS.md).
-use fronting::HINTS;
-use fronting::MARKS;
+use endfronting::HINTS;
+use endfronting::MARKS;
 use fronting::lend;
 use onegate::lists_long;
 use onegate::table_long;

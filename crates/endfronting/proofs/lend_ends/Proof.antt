@@ -1,4 +1,4 @@
--- `fronting::lend_ends` meets its contract. Assumes nothing.
+-- `endfronting::lend_ends` meets its contract. Assumes nothing.
 use mathlib.Core.Path.{_≡_, sym}
 use lib.IntN.{pos}
 use denote.Ref.{now}
@@ -6,8 +6,8 @@ use borrow.Author.Needs.{needs}
 use Rattle.onegate.specs.Sizes.{rowsSize, masksSize, coefsSize, countsSize, firstSize, keysSize, headsSize}
 use Rattle.onegate.proofs.Leaves.{front-long, front-zero}
 use Rattle.answering.specs.Marks.{marksSize, hintsSize}
-use Rattle.fronting.proofs.lend_ends.Statement.{statement}
-use Rattle.fronting.proofs.lend_ends.Tie as tie
+use Rattle.endfronting.proofs.lend_ends.Statement.{statement}
+use Rattle.endfronting.proofs.lend_ends.Tie as tie
 
 slice-relend-prefix-answer-cleared : tie.Need-slice-relend-prefix-answer-cleared
 slice-relend-prefix-answer-cleared c = let d = c .before .before .before .before .before .before .before .before .before .before .before .before .before .before .before .before .before .before .before .before .before .before .before .before .before .before .before .before .before .before .before .before .before .before .before .before .before in d .pre .3 .rowsLong
