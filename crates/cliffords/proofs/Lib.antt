@@ -1,0 +1,9 @@
+pub mod Table
+pub mod Group
+pub mod Spelling
+pub mod Played
+pub mod Spanned
+pub mod Alike
+pub mod Trees
+pub mod Images
+pub mod Returns

@@ -1,0 +1,3 @@
+pub mod Elements
+pub mod Words
+pub mod Sequences
