@@ -68,13 +68,13 @@ pub alike-after : (j : ℕ) (v w u : List Kind) → Alike j v w → Alike j (v +
 alike-after j v w u h p =
     let turns = each (ω^ j) in
     let long : each (√2^ (height (w ++ u))) (played (v ++ u) p) ≡ each (√2^ (height u)) (played u (each (√2^ (height w)) (played v p)))
-        = ap₂ (λ (m : ℕ) (q : Pair). each (√2^ m) q) (height-append w u) (played-append v u p)
-          ∙ raise-plus (height w) (height u) (played u (played v p))
-          ∙ ap (each (√2^ (height u))) (sym (played-scalar (by-√2 (height w)) u (played v p))) in
+    = ap₂ (λ (m : ℕ) (q : Pair). each (√2^ m) q) (height-append w u) (played-append v u p)
+    ∙ raise-plus (height w) (height u) (played u (played v p))
+    ∙ ap (each (√2^ (height u))) (sym (played-scalar (by-√2 (height w)) u (played v p))) in
     let right : each (√2^ (height (v ++ u))) (played (w ++ u) p) ≡ each (√2^ (height u)) (played u (each (√2^ (height v)) (played w p)))
-        = ap₂ (λ (m : ℕ) (q : Pair). each (√2^ m) q) (height-append v u) (played-append w u p)
-          ∙ raise-plus (height v) (height u) (played u (played w p))
-          ∙ ap (each (√2^ (height u))) (sym (played-scalar (by-√2 (height v)) u (played w p))) in
+    = ap₂ (λ (m : ℕ) (q : Pair). each (√2^ m) q) (height-append v u) (played-append w u p)
+    ∙ raise-plus (height v) (height u) (played u (played w p))
+    ∙ ap (each (√2^ (height u))) (sym (played-scalar (by-√2 (height v)) u (played w p))) in
     long
     ∙ ap (λ (q : Pair). each (√2^ (height u)) (played u q)) (h p)
     ∙ ap (each (√2^ (height u))) (played-scalar (by-ω j) u (each (√2^ (height v)) (played w p)))

@@ -107,11 +107,11 @@ then-assoc p q r h k l =
     let m = then-below p q h k in
     let n = then-below q r k l in
     let x : image (then (then p q) r) +X ≡ image (then p (then q r)) +X
-        = image-then (then p q) r m l +X (omega arith) ∙ ap (image r) (image-then p q h k +X (omega arith))
-          ∙ sym (image-then q r k l (image p +X) (image-axis p q h k +X (omega arith))) ∙ sym (image-then p (then q r) h n +X (omega arith)) in
+    = image-then (then p q) r m l +X (omega arith) ∙ ap (image r) (image-then p q h k +X (omega arith))
+    ∙ sym (image-then q r k l (image p +X) (image-axis p q h k +X (omega arith))) ∙ sym (image-then p (then q r) h n +X (omega arith)) in
     let z : image (then (then p q) r) +Z ≡ image (then p (then q r)) +Z
-        = image-then (then p q) r m l +Z (omega arith) ∙ ap (image r) (image-then p q h k +Z (omega arith))
-          ∙ sym (image-then q r k l (image p +Z) (image-axis p q h k +Z (omega arith))) ∙ sym (image-then p (then q r) h n +Z (omega arith)) in
+    = image-then (then p q) r m l +Z (omega arith) ∙ ap (image r) (image-then p q h k +Z (omega arith))
+    ∙ sym (image-then q r k l (image p +Z) (image-axis p q h k +Z (omega arith))) ∙ sym (image-then p (then q r) h n +Z (omega arith)) in
     known (then (then p q) r) (then-below (then p q) r m l) ∙ ap₂ number x z ∙ sym (known (then p (then q r)) (then-below p (then q r) h n))
 
 -- ---- the identity, and the closing element

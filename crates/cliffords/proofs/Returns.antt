@@ -54,9 +54,11 @@ unfolding letterTest
 letters-alike p g h k b =
     let q = then p (elementOf (letter g)) in
     let v = and-letter p (letter g) in
-    let w = kinds (getD words q []) in
-    (power v w, subst (λ (x : List Letter). Alike (power v w) (kinds x ++ (kind (letter g) ∷ [])) (kinds (wordOf q))) (sym (word-is p h))
-    (subst (λ (x : List Letter). Alike (power v w) v (kinds x)) (sym (word-is q b)) (is-alike (power v w) v w (atTwo letterTest elementsMost 2 all-letters p g h k))))
+    let w = kinds (getD words q []) in (
+      power v w,
+      subst (λ (x : List Letter). Alike (power v w) (kinds x ++ (kind (letter g) ∷ [])) (kinds (wordOf q))) (sym (word-is p h))
+          (subst (λ (x : List Letter). Alike (power v w) v (kinds x)) (sym (word-is q b)) (is-alike (power v w) v w (atTwo letterTest elementsMost 2 all-letters p g h k))),
+    )
 
 letter-below : (l : Letter) → elementOf l < elementsMost
 unfolding number left others placeIn
