@@ -7,3 +7,6 @@ pub mod Alike
 pub mod Trees
 pub mod Images
 pub mod Returns
+pub mod Shortest
+pub mod Answered
+pub mod Determined

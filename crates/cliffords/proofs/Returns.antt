@@ -60,7 +60,7 @@ letters-alike p g h k b =
           (subst (λ (x : List Letter). Alike (power v w) v (kinds x)) (sym (word-is q b)) (is-alike (power v w) v w (atTwo letterTest elementsMost 2 all-letters p g h k))),
     )
 
-letter-below : (l : Letter) → elementOf l < elementsMost
+pub letter-below : (l : Letter) → elementOf l < elementsMost
 unfolding number left others placeIn
 letter-below H = omega arith
 letter-below S = omega arith
@@ -115,7 +115,7 @@ elements-append : (seq : List ℕ) (q : ℕ) → Elements seq → q < elementsMo
 elements-append [] q k h = (h, tt)
 elements-append (e ∷ seq) q k h = (k .0, elements-append seq q (k .1) h)
 
-identity-below : identity < elementsMost
+pub identity-below : identity < elementsMost
 unfolding number left others placeIn
 identity-below = omega arith
 
