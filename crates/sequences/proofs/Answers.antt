@@ -1,6 +1,6 @@
 -- What the definitions of both jobs come to, by the tests that the code makes. Assumes nothing.
 use mathlib.Core.Path.{_≡_, refl, sym, ap, ap₂, _∙_}
-use mathlib.Core.Bool.{Bool, true, false}
+use mathlib.Core.Bool.{Bool, true, false, not}
 use mathlib.Core.List.{List, _++_}
 use Prim.Native.Nat.{ℕ, _<_, _≤_}
 use lib.Dec.{leb, ltb}
@@ -12,6 +12,15 @@ use Rattle.cliffords.specs.Elements.{elementsMost}
 use Rattle.cliffords.specs.Words.{codesOf, lettersMost}
 use Rattle.cliffords.specs.Sequences.{allOf, inverse, closing}
 use Rattle.cliffords.specs.Jobs.{sequenceMost, isElement, allElements, closingJudged, closingReply, spellJudged, spellReply, withWord, spellOutput}
+
+-- ---- a test that is turned round
+pub turned-true : (b : Bool) → not b ≡ true → b ≡ false
+turned-true true e = sym e
+turned-true false e = refl
+
+pub turned-false : (b : Bool) → not b ≡ false → b ≡ true
+turned-false true e = refl
+turned-false false e = sym e
 
 -- ---- the closing element
 module _ (seq : List ℕ) where

@@ -108,7 +108,7 @@ module _ {seq : List ℕ} {all i left : ℕ} (s : Playing seq all i left) where
           place = omega (arith, s .place);
           below = omega (arith, is, then-below all (getD seq i 0) (s .below) play-number);
           good = split .1;
-          rest = ap (λ (e : ℕ). after e (drop (i + 1) seq)) is ∙ sym (ap (after all) (next seq i left (s .place) more)) ∙ s .rest
+          rest = ap (λ (e : ℕ). after e (drop (i + 1) seq)) is ∙ sym (ap (after all) (next seq i left (s .place) more)) ∙ s .rest;
         }
 
   pub play-end : left ≡ 0 → (all ≡ allOf seq) × (all < elementsMost)

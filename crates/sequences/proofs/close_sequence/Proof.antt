@@ -1,65 +1,34 @@
+-- `sequences::close_sequence` meets its contract: each way through the code is one of the definition's. Assumes nothing.
+use mathlib.Core.Path.{sym, ap, _∙_}
+use denote.Ref.{now}
 use borrow.Author.Needs.{needs}
+use Rattle.replies.specs.Replied.{replyFrom}
+use Rattle.sequences.proofs.Answers.{turned-true, turned-false, too-long, too-large, closed-by}
 use Rattle.sequences.proofs.close_sequence.Statement.{statement}
 use Rattle.sequences.proofs.close_sequence.Tie as tie
-use Rattle.sequences.proofs.close_sequence.Reads as reads
-use Rattle.sequences.proofs.close_sequence.Lts as lts
-use Rattle.replies.proofs.made.Reads as made-reads
-use Rattle.replies.proofs.refused.Reads as refused-reads
-use Rattle.sequences.proofs.all_elements.Reads as all-elements-reads
-use Rattle.sequences.proofs.all_of.Reads as all-of-reads
-use Rattle.sequences.proofs.inverse_of.Reads as inverse-of-reads
 
--- src/lib.rt:81:9
-all-elements-requires : tie.Need-all-elements-requires
-all-elements-requires c κs = search needs
-
--- src/lib.rt:83:9
-refused-requires : tie.Need-refused-requires
-refused-requires c κs = search needs
-
--- src/lib.rt:83:9
 returns : tie.Need-returns
-returns c = ?
+returns c = let seq = now (c .before .before .before .before .args .seq) in c .refused .ensures ∙ ap replyFrom (sym (too-long seq (c .before .if1 .taken)))
 
--- src/lib.rt:90:9
-refused-requires-2 : tie.Need-refused-requires-2
-refused-requires-2 c κs = search needs
-
--- src/lib.rt:90:9
 returns-2 : tie.Need-returns-2
-returns-2 c = ?
+returns-2 c =
+    let t = c .before .before in
+    let seq = now (t .before .before .before .args .seq) in
+    c .refused2 .ensures ∙ ap replyFrom (sym (too-large seq (t .if1 .left) (sym (t .before .all-elements .ensures) ∙ turned-true _ (c .before .if2 .taken))))
 
--- src/lib.rt:96:21
 all-of-requires : tie.Need-all-of-requires
-all-of-requires c κs = ?
+all-of-requires c κs = sym (c .before .before .all-elements .ensures) ∙ turned-false _ (c .if2 .left)
 
--- src/lib.rt:96:10
-inverse-of-requires : tie.Need-inverse-of-requires
-inverse-of-requires c κs = search needs
-
--- src/lib.rt:96:10
-cast-made : tie.Need-cast-made
-cast-made c = search needs
-
--- src/lib.rt:96:5
-made-requires : tie.Need-made-requires
-made-requires c κs = search needs
-
--- src/lib.rt:78:1
 returns-3 : tie.Need-returns-3
-returns-3 c = ?
+returns-3 c =
+    let p = c .before .before in
+    let t = p .before .before in
+    let seq = now (t .before .before .before .args .seq) in
+    c .made .ensures
+    ∙ ap replyFrom (sym (closed-by seq (t .if1 .left) (all-of-requires (p .before) (p .all-of .lifetimes)) (p .all-of .ensures .0) (c .before .inverse-of .ensures)))
 
 pub close-sequence-spec : {M : Type 1} → statement M
 close-sequence-spec =
     tie.close
-    (tie.spec
-    all-elements-requires
-    refused-requires
-    returns
-    refused-requires-2
-    returns-2
-    all-of-requires
-    inverse-of-requires
-    cast-made
-    made-requires
-    returns-3)
+    (tie.spec (λ c κs. search needs) (λ c κs. search needs) returns (λ c κs. search needs) returns-2 all-of-requires (λ c κs. search needs)
+    (λ c. search needs) (λ c κs. search needs) returns-3)
