@@ -93,10 +93,10 @@ unfolding allOf
 play-begin seq h = record { place = omega arith; below = omega arith; good = h; rest = ap (λ (e : ℕ). after e seq) (sym identity-is) }
 
 module _ {seq : List ℕ} {all i left : ℕ} (s : Playing seq all i left) where
-  module _ (more : left ≡ 0 → ⊥) where
+  module _ (more : 0 < left) where
     split : (isElement (getD seq i 0) ≡ true) × (allElements (drop (i + 1) seq) ≡ true)
     unfolding allElements
-    split = both (isElement (getD seq i 0)) (allElements (drop (i + 1) seq)) (ap allElements (sym (next seq i left (s .place) more)) ∙ s .good)
+    split = both (isElement (getD seq i 0)) (allElements (drop (i + 1) seq)) (ap allElements (sym (next seq i left (s .place) (λ e. omega arith))) ∙ s .good)
 
     pub play-number : getD seq i 0 < elementsMost
     play-number = ltb-true (getD seq i 0) elementsMost (split .0)
@@ -108,9 +108,9 @@ module _ {seq : List ℕ} {all i left : ℕ} (s : Playing seq all i left) where
           place = omega (arith, s .place);
           below = omega (arith, is, then-below all (getD seq i 0) (s .below) play-number);
           good = split .1;
-          rest = ap (λ (e : ℕ). after e (drop (i + 1) seq)) is ∙ sym (ap (after all) (next seq i left (s .place) more)) ∙ s .rest;
+          rest = ap (λ (e : ℕ). after e (drop (i + 1) seq)) is ∙ sym (ap (after all) (next seq i left (s .place) (λ e. omega arith))) ∙ s .rest;
         }
 
-  pub play-end : left ≡ 0 → (all ≡ allOf seq) × (all < elementsMost)
+  pub play-end : left ≤ 0 → (all ≡ allOf seq) × (all < elementsMost)
   unfolding after
-  play-end h = (sym (ap (after all) (over seq i left (s .place) h)) ∙ s .rest, s .below)
+  play-end h = (sym (ap (after all) (over seq i left (s .place) (omega arith))) ∙ s .rest, s .below)

@@ -1,5 +1,7 @@
 // Document 02, request 10: the closing element of a sequence, and an element spelled in H and S. `close_sequence` and `spell` are public and ask for
 // nothing: whatever the bytes and the number are, the answer is a reply.
+pub mod entry;
+
 use elements::product;
 use elements::put_word;
 use refusals::Refusal;
@@ -65,11 +67,11 @@ fn all_of(seq: &[u8]) -> u8
 {
     let mut all = IDENTITY;
     let mut i = 0;
-    let mut left = seq.len();
-    while left != 0 {
+    let mut unplayed = seq.len();
+    while 0 < unplayed {
         all = product(all, seq[i]);
         i += 1;
-        left -= 1;
+        unplayed -= 1;
     }
     all
 }

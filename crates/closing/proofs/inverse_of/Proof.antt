@@ -1,8 +1,8 @@
--- `sequences::inverse_of` meets its contract: the first column in which the identity stands. Assumes nothing.
+-- `closing::inverse_of` meets its contract: the first column in which the identity stands. Assumes nothing.
 use borrow.Author.Needs.{needs}
-use Rattle.sequences.proofs.Loops.{Searching, search-begin, search-found, search-on, search-end}
-use Rattle.sequences.proofs.inverse_of.Statement.{statement}
-use Rattle.sequences.proofs.inverse_of.Tie as tie
+use Rattle.closing.proofs.Loops.{Searching, search-begin, search-found, search-on, search-end}
+use Rattle.closing.proofs.inverse_of.Statement.{statement}
+use Rattle.closing.proofs.inverse_of.Tie as tie
 
 abbrev Inv-loop : tie.InvT-loop
 Inv-loop p q₀ left₀ q left = Searching p q left

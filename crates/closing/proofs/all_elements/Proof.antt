@@ -1,9 +1,10 @@
--- `sequences::all_elements` meets its contract: the numbers left pass exactly if all do. Assumes nothing.
+-- `closing::all_elements` meets its contract: the numbers left pass exactly if all do. Assumes nothing.
+use native.Mathlib.Omega.{arith}
 use denote.Ref.{now}
 use borrow.Author.Needs.{needs}
-use Rattle.sequences.proofs.Loops.{Testing, test-begin, test-found, test-on, test-end}
-use Rattle.sequences.proofs.all_elements.Statement.{statement}
-use Rattle.sequences.proofs.all_elements.Tie as tie
+use Rattle.closing.proofs.Loops.{Testing, test-begin, test-found, test-on, test-end}
+use Rattle.closing.proofs.all_elements.Statement.{statement}
+use Rattle.closing.proofs.all_elements.Tie as tie
 
 abbrev Inv-loop : tie.InvT-loop
 Inv-loop seq i₀ left₀ i left = Testing seq i left
@@ -12,10 +13,10 @@ abbrev μ-loop : tie.MeasureT-loop
 μ-loop seq i₀ left₀ i left = left
 
 returns : tie.Need-returns Inv-loop μ-loop
-returns c = let t = c .before .before in test-found (t .before .loop .inv) (t .loop-test .taken) (c .if1 .taken)
+returns c = let t = c .before .before in test-found (t .before .loop .inv) (t .loop-test .taken) (omega (arith, c .if1 .taken))
 
 loop-again : tie.Need-loop-again Inv-loop μ-loop
-loop-again c = let t = c .before .before in test-on (t .before .loop .inv) (t .loop-test .taken) (c .if1 .left)
+loop-again c = let t = c .before .before in test-on (t .before .loop .inv) (t .loop-test .taken) (omega (arith, c .if1 .left))
 
 pub all-elements-spec : {M : Type 1} → statement M
 all-elements-spec =
