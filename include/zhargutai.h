@@ -25,6 +25,13 @@ extern "C" {
 /* Length of a circuit of one gate: "GT", code, target, control, zero. */
 #define ZHARGUTAI_GATE_SIZE 6
 
+/* Size that the output of a spelled element needs: the longest word. A shorter output gives 17; of a longer one the further bytes stay. */
+#define ZHARGUTAI_SPELL_SIZE 6
+
+/* The most numbers in a sequence of Clifford elements, and how many elements there are, from 0 on. */
+#define ZHARGUTAI_SEQUENCE_MOST 4096
+#define ZHARGUTAI_ELEMENTS 24
+
 /* The reply (docs/REPLY.md). Numbers of more than one byte are little-endian.
  *
  *   byte  0        kind, one of those below
@@ -105,6 +112,46 @@ uint32_t zhargutai_check(const uint8_t *start, size_t start_len,
                          const uint8_t *circuit, size_t circuit_len,
                          const uint8_t *end, size_t end_len,
                          uint32_t allowance,
+                         uint8_t *reply, size_t reply_len);
+
+/* Benchmark sequences: the 24 Clifford elements of one qubit, numbered 0 to 23 by the axes that X and Z go to (docs/USE.md has them as a table).
+ * The identity is 2, S is 10, H is 16, Z is 6.
+ *
+ * Gives the element that brings a sequence back to the identity.
+ *
+ *   sequence  one number to a byte, the first played first; at most ZHARGUTAI_SEQUENCE_MOST numbers (source 2 of a refusal); a length of 0 is one too
+ *   reply     lent, at least ZHARGUTAI_REPLY_SIZE bytes
+ *
+ * Returns the number of the refusal, 0 if nothing was refused. The reply says the same and more.
+ *
+ * Nothing refused: the kind is ZHARGUTAI_MADE and the count is the closing element. The sequence's words and then that element's, as gates of one
+ * qubit, return every state to itself times one power of w (the eighth root of 1).
+ *
+ * Refused: the kind is ZHARGUTAI_REFUSED. The numbers are 23 for a sequence that is too long, then 22 for a number over 23.
+ *
+ * A reply buffer under ZHARGUTAI_REPLY_SIZE bytes: 17 is returned and nothing is written.
+ */
+uint32_t zhargutai_closing(const uint8_t *sequence, size_t sequence_len,
+                           uint8_t *reply, size_t reply_len);
+
+/* Spells an element in H and S gates: the shortest word, and of several the one with H before S at the first letter in which they differ.
+ *
+ *   element  its number
+ *   output   lent, at least ZHARGUTAI_SPELL_SIZE bytes
+ *   reply    lent, at least ZHARGUTAI_REPLY_SIZE bytes
+ *
+ * Returns the number of the refusal, 0 if nothing was refused. The reply says the same and more.
+ *
+ * Nothing refused: the kind is ZHARGUTAI_MADE, the word is at the front of output, one code to a letter, 4 for H and 5 for S, the first played first;
+ * its length is the reply's count, 0 for the identity, and all further bytes of output stay as they were.
+ *
+ * Refused: the kind is ZHARGUTAI_REFUSED and every byte of output stays. The numbers are 17 for a short output, then 22 (source 2) for a number
+ * over 23.
+ *
+ * A reply buffer under ZHARGUTAI_REPLY_SIZE bytes: 17 is returned and nothing is written anywhere.
+ */
+uint32_t zhargutai_spell(uint32_t element,
+                         uint8_t *output, size_t output_len,
                          uint8_t *reply, size_t reply_len);
 
 #ifdef __cplusplus
