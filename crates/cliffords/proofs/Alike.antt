@@ -1,15 +1,15 @@
 -- Two words are alike up to ω^j if their matrices are so. That is decided at (1,0) and (0,1), it goes with what is played after both, and the
 -- powers add. Assumes nothing.
 use mathlib.Core.Path.{_≡_, refl, sym, ap, ap₂, _∙_}
-use mathlib.Core.Bool.{Bool, true, false, _&&_, cond}
-use mathlib.Core.List.{List, [], _∷_, _++_, append-assoc}
-use Prim.Native.Nat.{ℕ, zero, suc, _+_}
+use mathlib.Core.Bool.{Bool, true, _&&_}
+use mathlib.Core.List.{List, _++_}
+use Prim.Native.Nat.{ℕ, _+_}
 use native.Mathlib.Omega.{arith}
-use Rattle.amplitude.specs.Amp.{Amp, timesω, _⊕_, ω^, √2^, 0A, sameA}
+use Rattle.amplitude.specs.Amp.{Amp, ω^, √2^, 0A, sameA}
 use Rattle.amplitude.proofs.RingLaws.{ω^-plus, √2^-plus}
 use Rattle.amplitude.proofs.Equal.{both, sameA-sound, √2^-inj}
 use Rattle.gates.specs.Gate.{Kind}
-use Rattle.cliffords.proofs.Played.{Pair, each, _⊞_, played, height, played-append, height-append, played-add, played-scalar, each-add, each-turned, by-ω, by-√2}
+use Rattle.cliffords.proofs.Played.{Pair, each, played, height, played-append, height-append, played-add, played-scalar, each-add, each-turned, by-ω, by-√2}
 use Rattle.cliffords.proofs.Spanned.{1A, Linear, agree}
 
 -- at a common k the matrix of v is ω^j times that of w

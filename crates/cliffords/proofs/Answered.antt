@@ -1,21 +1,20 @@
 -- What a reply that is no refusal means: the closing element returns every tree, and the word comes to its element. Assumes nothing.
-use mathlib.Core.Path.{_≡_, refl, sym, ap, _∙_, subst}
-use mathlib.Core.Bool.{Bool, true, false, _&&_}
-use mathlib.Core.List.{List, [], _∷_, _++_, map}
-use Prim.Native.Nat.{ℕ, _<_, _≤_}
-use lib.Dec.{leb, ltb}
+use mathlib.Core.Path.{_≡_, sym, ap, _∙_}
+use mathlib.Core.Bool.{true}
+use mathlib.Core.List.{List, [], _∷_, _++_}
+use Prim.Native.Nat.{ℕ, _≤_}
+use lib.Dec.{leb}
 use lib.ListN.{length}
 use borrow.Author.Tests.{ltb-true}
 use Rattle.amplitude.specs.Leaf.{turn}
 use Rattle.amplitude.proofs.Equal.{both}
 use Rattle.automata.specs.Tree.{Tree, mapT, sameT}
-use Rattle.stored.specs.Refusal.{Judged, good, need, refusal, noSource, circuitSource}
+use Rattle.stored.specs.Refusal.{good, refusal, circuitSource}
 use Rattle.stored.proofs.Reading.{need-good}
 use Rattle.gates.specs.Matrix.{carried}
 use Rattle.cliffords.specs.Elements.{elementsMost}
-use Rattle.cliffords.specs.Words.{lettersMost, codesOf}
 use Rattle.cliffords.specs.Sequences.{closing, spelled}
-use Rattle.cliffords.specs.Jobs.{sequenceMost, isElement, allElements, closingJudged, spellJudged}
+use Rattle.cliffords.specs.Jobs.{sequenceMost, isElement, allElements, closingJudged}
 use Rattle.cliffords.proofs.Returns.{Elements, returns}
 
 -- the test is the fact

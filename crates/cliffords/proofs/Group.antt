@@ -3,13 +3,12 @@
 use mathlib.Core.Path.{_≡_, refl, sym, ap, ap₂, _∙_}
 use mathlib.Core.Bool.{Bool, true, false, cond, _&&_, _||_, not}
 use mathlib.Core.List.{List, [], _∷_}
-use Prim.Native.Nat.{ℕ, suc, _<_}
+use Prim.Native.Nat.{ℕ, _<_}
 use native.Mathlib.Omega.{arith}
 use lib.Dec.{eqb, ltb}
 use borrow.Author.Tests.{eqb-true, eq-eqb, ltb-true}
 use Rattle.amplitude.proofs.Equal.{both}
-use Rattle.automata.specs.Members.{upTo}
-use Rattle.cliffords.specs.Elements.{axes, +X, +Y, +Z, line, changed, others, left, placeIn, number, imageX, imageY, imageZ, iTimes, image, then, identity, elementsMost}
+use Rattle.cliffords.specs.Elements.{+X, +Z, line, changed, others, left, placeIn, number, imageX, imageY, imageZ, iTimes, image, then, identity, elementsMost}
 use Rattle.cliffords.specs.Words.{H, S, elementOf, from, comesTo}
 use Rattle.cliffords.specs.Sequences.{inverse, firstBack}
 use Rattle.cliffords.proofs.Table.{every, at, everyTwo, atTwo}

@@ -1,6 +1,6 @@
 -- By the matrices an element's word takes X, Y and Z to the images that its number says: U P is (U P U†) U. One test of 72 comparisons. Assumes
 -- nothing.
-use mathlib.Core.Path.{_≡_, refl, sym, ap, ap₂, _∙_, subst}
+use mathlib.Core.Path.{_≡_, refl, sym, subst}
 use mathlib.Core.Bool.{Bool, true}
 use mathlib.Core.List.{List, [], _∷_, _++_, map}
 use Prim.Native.Nat.{ℕ, _*_, _<_, _≤_}

@@ -5,7 +5,7 @@ use mathlib.Core.List.{List, [], _∷_, _++_}
 use Prim.Native.Nat.{ℕ, zero, suc, _+_}
 use native.Mathlib.Omega.{arith}
 use Rattle.amplitude.specs.Amp.{Amp, timesω, _⊕_, ω^, √2^, 0A}
-use Rattle.amplitude.proofs.RingLaws.{⊕-comm, ⊕-assoc, ω-add, ω^-add, ω^-plus, √2-ω, √2^-ω^, √2^-add, √2^-zero}
+use Rattle.amplitude.proofs.RingLaws.{⊕-comm, ⊕-assoc, ω^-add, ω^-plus, √2^-ω^, √2^-add, √2^-zero}
 use Rattle.gates.specs.Gate.{Kind, phase, flip, H}
 use Rattle.gates.specs.Matrix.{Entry, O, W, W/√2, Matrix, kindMatrix}
 

@@ -2,11 +2,11 @@
 -- and one letter more is alike the word of the product: 48 comparisons. So are a word and another word, and the words of a sequence; and the
 -- product of a sequence with its closing element is the identity, whose word is empty. Assumes nothing.
 use mathlib.Core.Path.{_≡_, refl, sym, ap, ap₂, _∙_, subst}
-use mathlib.Core.Bool.{Bool, true, false, cond, _&&_}
+use mathlib.Core.Bool.{Bool, true, cond}
 use mathlib.Core.List.{List, [], _∷_, _++_, map, append-assoc}
-use Prim.Native.Nat.{ℕ, zero, suc, _+_, _<_, _≤_}
+use Prim.Native.Nat.{ℕ, _+_, _<_, _≤_}
 use native.Mathlib.Omega.{arith}
-use lib.Dec.{eqb, ltb}
+use lib.Dec.{eqb}
 use lib.ListN.{getD}
 use Rattle.amplitude.specs.Leaf.{turn}
 use Rattle.automata.specs.Members.{upTo}
@@ -16,7 +16,7 @@ use Rattle.gates.specs.Gate.{Kind, Gate, plain}
 use Rattle.gates.specs.Matrix.{carried}
 use Rattle.cliffords.specs.Elements.{changed, others, left, placeIn, number, imageX, imageY, imageZ, iTimes, image, then, identity, elementsMost}
 use Rattle.cliffords.specs.Words.{Letter, H, S, kind, elementOf, from, wordOf}
-use Rattle.cliffords.specs.Sequences.{after, allOf, inverse, closing, gatesOf, spelled}
+use Rattle.cliffords.specs.Sequences.{after, allOf, closing, gatesOf, spelled}
 use Rattle.cliffords.proofs.Table.{everyTwo, atTwo}
 use Rattle.cliffords.proofs.Group.{then-below, closes}
 use Rattle.cliffords.proofs.Spelling.{words, word-is, word-added}

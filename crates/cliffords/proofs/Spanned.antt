@@ -1,8 +1,8 @@
 -- Two linear maps of pairs are equal if they agree at (1,0) and at (0,1): from 1, sums and ω make every amplitude. Assumes nothing.
-use mathlib.Core.Path.{_≡_, refl, sym, ap, ap₂, _∙_, subst}
+use mathlib.Core.Path.{_≡_, sym, ap, ap₂, _∙_, subst}
 use Prim.Native.Nat.{ℕ, zero, suc, _+_}
 use native.Mathlib.Omega.{arith}
-use lib.IntN.{ℤ, pos, negsuc, negℤ, _+ℤ_, +ℤ-idl, +ℤ-idr}
+use lib.IntN.{ℤ, pos, negsuc, +ℤ-idl, +ℤ-idr}
 use Rattle.amplitude.specs.Amp.{Amp, amp, timesω, _⊕_, ω^, 0A}
 use Rattle.amplitude.proofs.RingLaws.{0⊕, ⊕0}
 use Rattle.cliffords.proofs.Played.{Pair, each, _⊞_}

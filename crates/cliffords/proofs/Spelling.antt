@@ -1,5 +1,5 @@
 -- The 24 words, computed once as the definition finds them. A word comes to its element, after any other element too. Assumes nothing.
-use mathlib.Core.Path.{_≡_, refl, sym, ap, _∙_}
+use mathlib.Core.Path.{_≡_, refl, ap, _∙_}
 use mathlib.Core.Bool.{Bool, true, _&&_}
 use mathlib.Core.List.{List, [], _∷_, map}
 use mathlib.Core.Option.{some}
@@ -10,9 +10,9 @@ use borrow.Author.Tests.{eqb-true, leb-true}
 use Rattle.amplitude.proofs.Equal.{both}
 use Rattle.automata.specs.Members.{upTo}
 use Rattle.gates.specs.Circuit as circuit
-use Rattle.cliffords.specs.Elements.{changed, others, left, placeIn, number, imageX, imageY, imageZ, iTimes, image, then, identity, elementsMost}
+use Rattle.cliffords.specs.Elements.{changed, others, left, placeIn, number, imageX, imageY, imageZ, iTimes, image, then, elementsMost}
 use Rattle.cliffords.specs.Words.{Letter, H, S, code, kind, from, comesTo, wordsOf, wordsTo, lettersMost, firstTo, wordOf}
-use Rattle.cliffords.proofs.Table.{every, at, everyTwo, atTwo, listed}
+use Rattle.cliffords.proofs.Table.{everyTwo, atTwo, listed}
 
 -- the letters' codes are document 01's
 pub letter-code : (l : Letter) → circuit.kindOf (code l) ≡ some (kind l)

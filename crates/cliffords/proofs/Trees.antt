@@ -2,20 +2,20 @@
 -- is a pair of amplitudes. Assumes nothing.
 use mathlib.Core.Path.{_≡_, refl, sym, ap, ap₂, _∙_, subst}
 use mathlib.Core.Bool.{Bool, true, false, _&&_, cond}
-use mathlib.Core.List.{List, [], _∷_, _++_, map}
+use mathlib.Core.List.{List, [], _∷_, map}
 use Prim.Native.Nat.{ℕ, zero, suc, _+_, _-_, _≤_, _<_, max}
 use native.Mathlib.Omega.{arith}
 use lib.Dec.{eqb}
-use borrow.Author.Tests.{eqb-true, eqb-false}
-use Rattle.amplitude.specs.Amp.{Amp, _⊕_, ω^, √2^, 0A}
-use Rattle.amplitude.specs.Leaf.{Leaf, leaf, kOf, 0L, plus, turn, over√2, same}
+use borrow.Author.Tests.{eqb-false}
+use Rattle.amplitude.specs.Amp.{Amp, _⊕_, ω^, √2^}
+use Rattle.amplitude.specs.Leaf.{Leaf, leaf, kOf, plus, turn, same}
 use Rattle.amplitude.proofs.RingLaws.{√2^-plus, √2^-add, √2^-ω^, √2^-zero}
 use Rattle.amplitude.proofs.Equal.{raisedTo, raised-same}
 use Rattle.automata.specs.Tree.{Tree, mapT, zipT, sameT}
 use Rattle.gates.specs.Gate.{Kind, phase, flip, H, Gate, plain}
-use Rattle.gates.specs.Matrix.{Entry, O, W, W/√2, times, Matrix, kindMatrix, row, applyAt, gateMatrix, carried}
+use Rattle.gates.specs.Matrix.{Entry, O, W, W/√2, times, Matrix, kindMatrix, applyAt, carried}
 use Rattle.gates.proofs.MatrixLaws.{select-none}
-use Rattle.cliffords.proofs.Played.{Pair, each, on, step, rise, played, height}
+use Rattle.cliffords.proofs.Played.{Pair, on, step, rise, played, height}
 use Rattle.cliffords.proofs.Alike.{Alike}
 
 -- ---- leaves at a k that is large enough

@@ -1,5 +1,5 @@
 -- Document 02, request 10: the 24 elements, numbered by the images of X and Z under U P U†, and one played after another.
-use mathlib.Core.Bool.{Bool, cond, not}
+use mathlib.Core.Bool.{cond}
 use mathlib.Core.List.{List, [], _∷_}
 use Prim.Native.Nat.{ℕ, suc, _+_, _*_, _-_, _/_, _%_}
 use lib.ListN.{getD}

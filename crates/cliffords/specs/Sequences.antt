@@ -1,7 +1,7 @@
 -- Document 02, request 10: "From a sequence of up to 4,096 numbers give the element that brings it to identity", and a sequence as gates.
-use mathlib.Core.Bool.{Bool, cond}
+use mathlib.Core.Bool.{cond}
 use mathlib.Core.List.{List, [], _∷_, _++_, map}
-use Prim.Native.Nat.{ℕ, zero, suc}
+use Prim.Native.Nat.{ℕ}
 use lib.Dec.{eqb}
 use Rattle.gates.specs.Gate.{Gate, plain}
 use Rattle.automata.specs.Members.{upTo}

@@ -1,5 +1,5 @@
 -- Document 02, request 10: "spell any element in H and S gates, shortest first, H before S among equals".
-use mathlib.Core.Bool.{Bool, cond}
+use mathlib.Core.Bool.{cond}
 use mathlib.Core.List.{List, [], _∷_, _++_, map}
 use Prim.Native.Nat.{ℕ, zero, suc}
 use lib.Dec.{eqb}

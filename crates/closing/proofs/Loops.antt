@@ -1,11 +1,11 @@
 -- The three loops: what is left, from here on, comes to the whole. Assumes nothing.
-use mathlib.Core.Path.{_≡_, refl, sym, ap, ap₂, _∙_}
+use mathlib.Core.Path.{_≡_, refl, sym, ap, _∙_}
 use mathlib.Core.Bool.{Bool, true, false, cond, _&&_}
 use mathlib.Core.List.{List, [], _∷_}
 use Prim.Native.Nat.{ℕ, suc, _+_, _-_, _<_, _≤_}
 use native.Mathlib.Numerals.{add-one}
 use native.Mathlib.Omega.{arith}
-use lib.Dec.{eqb, ltb}
+use lib.Dec.{eqb}
 use lib.ListN.{length, getD, drop}
 use lib.Seq.{drop-cons, drop-length}
 use borrow.Author.Tests.{eq-eqb, ne-eqb, le-ltb, lt-ltb, ltb-true}
@@ -15,7 +15,6 @@ use Rattle.cliffords.specs.Elements.{elementsMost, identity, then}
 use Rattle.cliffords.specs.Sequences.{after, allOf, firstBack, inverse}
 use Rattle.cliffords.specs.Jobs.{isElement, allElements}
 use Rattle.cliffords.proofs.Group.{numbered, then-below}
-use Rattle.cliffords.proofs.Returns.{identity-below}
 
 -- the identity is the code's 2
 pub identity-is : identity ≡ 2
