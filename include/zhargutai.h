@@ -39,7 +39,7 @@ extern "C" {
  *   byte  2        its source: 1 start set, 2 circuit, 3 end set, 0 for 13 and 17
  *   byte  3        zero
  *   bytes 4 to 7   its place: the gate, from 1, for 12, 14, 15 and 16; else 0
- *   bytes 8 to 11  count; for `made` the length of the new set; 0 for a refusal
+ *   bytes 8 to 11  count; for `made` the length of the new set, the closing element or the number of letters; 0 for a refusal
  *   bytes 12 to 15 root of the first start that fails; else 0
  *   bytes 16 to 36 its word in 21 places, one choice each; else 0
  *   bytes 37 to 63 zero

@@ -21,7 +21,10 @@ letter-code S = refl
 
 abbrev pub words : List (List Letter)
 words =
-    (S ∷ H ∷ S ∷ []) ∷ (H ∷ S ∷ H ∷ []) ∷ [] ∷ (H ∷ S ∷ S ∷ H ∷ []) ∷ (H ∷ S ∷ H ∷ S ∷ S ∷ []) ∷ (S ∷ H ∷ S ∷ S ∷ S ∷ []) ∷ (S ∷ S ∷ []) ∷ (H ∷ S ∷ S ∷ H ∷ S ∷ S ∷ []) ∷ (H ∷ S ∷ H ∷ S ∷ []) ∷ (S ∷ H ∷ S ∷ S ∷ []) ∷ (S ∷ []) ∷ (H ∷ S ∷ S ∷ H ∷ S ∷ []) ∷ (S ∷ H ∷ []) ∷ (H ∷ S ∷ H ∷ S ∷ S ∷ S ∷ []) ∷ (S ∷ S ∷ S ∷ []) ∷ (S ∷ H ∷ S ∷ S ∷ H ∷ []) ∷ (H ∷ []) ∷ (H ∷ S ∷ S ∷ []) ∷ (H ∷ S ∷ []) ∷ (H ∷ S ∷ S ∷ S ∷ []) ∷ (S ∷ S ∷ H ∷ []) ∷ (S ∷ S ∷ H ∷ S ∷ S ∷ []) ∷ (S ∷ S ∷ H ∷ S ∷ []) ∷ (H ∷ S ∷ H ∷ S ∷ S ∷ H ∷ []) ∷ []
+    (S ∷ H ∷ S ∷ []) ∷ (H ∷ S ∷ H ∷ []) ∷ [] ∷ (H ∷ S ∷ S ∷ H ∷ []) ∷ (H ∷ S ∷ H ∷ S ∷ S ∷ []) ∷ (S ∷ H ∷ S ∷ S ∷ S ∷ []) ∷
+    (S ∷ S ∷ []) ∷ (H ∷ S ∷ S ∷ H ∷ S ∷ S ∷ []) ∷ (H ∷ S ∷ H ∷ S ∷ []) ∷ (S ∷ H ∷ S ∷ S ∷ []) ∷ (S ∷ []) ∷ (H ∷ S ∷ S ∷ H ∷ S ∷ []) ∷
+    (S ∷ H ∷ []) ∷ (H ∷ S ∷ H ∷ S ∷ S ∷ S ∷ []) ∷ (S ∷ S ∷ S ∷ []) ∷ (S ∷ H ∷ S ∷ S ∷ H ∷ []) ∷ (H ∷ []) ∷ (H ∷ S ∷ S ∷ []) ∷
+    (H ∷ S ∷ []) ∷ (H ∷ S ∷ S ∷ S ∷ []) ∷ (S ∷ S ∷ H ∷ []) ∷ (S ∷ S ∷ H ∷ S ∷ S ∷ []) ∷ (S ∷ S ∷ H ∷ S ∷ []) ∷ (H ∷ S ∷ H ∷ S ∷ S ∷ H ∷ []) ∷ []
 
 all-words : map wordOf (upTo 0 elementsMost) ≡ words
 unfolding wordOf firstTo wordsTo wordsOf comesTo from changed others left placeIn number imageX imageY imageZ iTimes image then
