@@ -1,7 +1,5 @@
 // Document 02, request 10: the closing element of a sequence, and an element spelled in H and S. `close_sequence` and `spell` are public and ask for
 // nothing: whatever the bytes and the number are, the answer is a reply.
-pub mod entry;
-
 use elements::product;
 use elements::put_word;
 use refusals::Refusal;

@@ -1,2 +1,3 @@
 pub mod Entered
 pub mod Checked
+pub mod Sequenced

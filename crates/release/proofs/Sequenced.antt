@@ -1,4 +1,4 @@
--- What the entries' definitions come to, from what `put_reply` leaves and tells. Assumes nothing.
+-- What the entries for sequences come to, from what `put_reply` leaves and tells. Assumes nothing.
 use mathlib.Core.Path.{_≡_, refl, sym, ap, _∙_}
 use mathlib.Core.Bool.{Bool, false, cond}
 use mathlib.Core.List.{List}

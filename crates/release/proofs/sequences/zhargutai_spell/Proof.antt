@@ -1,9 +1,9 @@
--- `closing::entry::spell_entry` meets its contract: with a short reply buffer nothing is called, else the job's reply is what is put. Assumes nothing.
+-- `release::sequences::zhargutai_spell` meets its contract: with a short reply buffer nothing is called, else the job's reply is what is put. Assumes nothing.
 use denote.Ref.{now}
 use borrow.Author.Needs.{needs}
-use Rattle.closing.proofs.Entered.{short-number, short-output, short-buffer, spell-number, spell-output, spell-buffer}
-use Rattle.closing.proofs.entry.spell_entry.Statement.{statement}
-use Rattle.closing.proofs.entry.spell_entry.Tie as tie
+use Rattle.release.proofs.Sequenced.{short-number, short-output, short-buffer, spell-number, spell-output, spell-buffer}
+use Rattle.release.proofs.sequences.zhargutai_spell.Statement.{statement}
+use Rattle.release.proofs.sequences.zhargutai_spell.Tie as tie
 
 returns : tie.Need-returns
 returns c =
@@ -20,7 +20,7 @@ returns-2 c =
     let is = done .spell .ensures .0 in
     (spell-number (a .element) (now (a .output)) (now (a .reply)) is (put .put-reply .ensures .1), (spell-output (a .element) (now (a .output)) (now (a .reply)) (t .if1 .left) (done .spell .ensures .1), spell-buffer (a .element) (now (a .output)) (now (a .reply)) is (put .put-reply .ensures .0)))
 
-pub spell-entry-spec : {M : Type 1} → statement M
-spell-entry-spec =
+pub zhargutai-spell-spec : {M : Type 1} → statement M
+zhargutai-spell-spec =
     tie.close
     (tie.spec returns (λ c κs. search needs) (λ c κs. search needs) (λ c. search needs) (λ c. search needs) returns-2)
