@@ -7,7 +7,7 @@ import gates as reference
 from zhargutai import gates, sets, states
 
 tally, rng = Tally(), random.Random(20)
-for b in random_files(1200, 7):
+for b in random_files(500, 7):
     s, mine = reference_sets.read_set(b), sets.from_bytes(b)
     gate = random_gate(rng, s.n)
     new = reference.build(s, gate)
@@ -25,4 +25,4 @@ for b in random_files(1200, 7):
         k, terms = gates.applied(states.state_of(mine, root, word), s.n, (*gate, 0))
         after = reference.apply(vector, s.n, gate)
         tally.holds(f"matrix of {gate}", all(reference.same(x, (k, *terms.get(i, (0, 0, 0, 0)))) for i, x in enumerate(after)))
-tally.end("members, states and gates", 2000)
+tally.end("members, states and gates", 1000)

@@ -113,8 +113,9 @@ def ending(image, e):
         said.append(("Does not fit", ["By this tool's own reading the image is that end state. The program's line counts; please look at both."]))
     if phase:
         j, number, root, word = phase
-        said.append(("A phase in common", [f"The image times {'i' if j == 2 else '-1' if j == 4 else '-i' if j == 6 else f'w^{j}'} is end state number {number:,} (root {root}, word {' '.join(map(str, word))}).",
-                                           "The two differ by a power of w in common, which no measurement tells apart, and the exact check does."]))
+        power = amplitudes.spelled(amplitudes.turn(amplitudes.ONE, 8 - j))
+        said.append(("A phase in common", [f"The image is {power} times end state number {number:,} (root {root}, word {' '.join(map(str, word))}).",
+                                           "A phase in common to the whole state is seen by no measurement; the exact check tells it apart."]))
     return said
 
 
