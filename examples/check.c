@@ -39,26 +39,24 @@ static const uint8_t bell[] = {
 };
 
 /* H on qubit 1; CX with target 2 and control 1. */
-static const uint8_t circuit[] = {'G', 'T', 4, 1, 0, 0, 'G', 'T', 9, 2, 1, 0};
-
-static uint32_t u32_at(const uint8_t *b) { return (uint32_t)b[0] | (uint32_t)b[1] << 8 | (uint32_t)b[2] << 16 | (uint32_t)b[3] << 24; }
+static const uint8_t circuit[] = {ZHARGUTAI_GATE(ZHARGUTAI_GATE_H, 1, 0), ZHARGUTAI_GATE(ZHARGUTAI_GATE_CX, 2, 1)};
 
 int main(void) {
     uint8_t reply[ZHARGUTAI_REPLY_SIZE];
     uint32_t refusal = zhargutai_check(basis, sizeof basis, circuit, sizeof circuit, bell, sizeof bell, 4, reply, sizeof reply);
-    uint32_t count = u32_at(reply + ZHARGUTAI_REPLY_COUNT);
-    unsigned last = basis[3];
+    uint32_t count = zhargutai_count(reply);
+    unsigned levels = basis[3] + 1u;
     if (refusal != 0) {
-        printf("refused %" PRIu32 " %u %" PRIu32 "\n", refusal, (unsigned)reply[ZHARGUTAI_REPLY_SOURCE], u32_at(reply + ZHARGUTAI_REPLY_PLACE));
+        printf("refused %" PRIu32 " %u %" PRIu32 "\n", refusal, zhargutai_source(reply), zhargutai_place(reply));
         return 1;
     }
-    switch (reply[ZHARGUTAI_REPLY_KIND]) {
+    switch (zhargutai_kind(reply)) {
     case ZHARGUTAI_HOLDS:
         printf("holds %" PRIu32 "\n", count);
-        return 0;
+        return count == 0;
     case ZHARGUTAI_FAILS:
-        printf("fails %" PRIu32 " %" PRIu32, count, u32_at(reply + ZHARGUTAI_REPLY_ROOT));
-        for (unsigned level = 0; level <= last; level++) printf(" %u", (unsigned)reply[ZHARGUTAI_REPLY_WORD + level]);
+        printf("fails %" PRIu32 " %" PRIu32, count, zhargutai_root(reply));
+        for (unsigned level = 1; level <= levels; level++) printf(" %u", zhargutai_choice(reply, level));
         printf("\n");
         return 1;
     default:

@@ -1,6 +1,12 @@
 /* The C interface of the checker: what a caller lends, what comes back, and in which bytes.
  *
- * Link the archive that `rt staticlib release` writes, target/staticlib/librelease.a (x86-64 Linux).
+ * Link libzhargutai (`make install`, then `pkg-config --cflags --libs zhargutai`), or the archive that `rt staticlib release`
+ * writes, target/staticlib/librelease.a (x86-64 Linux).
+ *
+ * Calls are reentrant: the library has no global data, takes no memory from the heap and keeps nothing from one call to the
+ * next. Any number of threads may call it at the same time, each with its own lent buffers.
+ *
+ * A call takes its work buffers from the stack of the thread that makes it: see ZHARGUTAI_STACK_SIZE.
  *
  * A byte buffer is passed as a pointer and then its length. A pointer must be valid for that many bytes, and it must not
  * be null, not even for a length of 0. The lent buffers (output, reply) must not overlap each other or an input. The
@@ -15,6 +21,16 @@
 #ifdef __cplusplus
 extern "C" {
 #endif
+
+/* Version of this interface. */
+#define ZHARGUTAI_VERSION "1.0.0"
+#define ZHARGUTAI_VERSION_MAJOR 1
+#define ZHARGUTAI_VERSION_MINOR 0
+
+/* Stack that a thread needs for a call, in bytes, with room for the caller (tests/stack.sh measures about half of it). The main
+ * thread has 8 MiB by default; give this much to a thread of your own (pthread_attr_setstacksize). With less, a call that runs
+ * over the end meets the guard page: the process ends by SIGSEGV, and nothing outside the stack is written. */
+#define ZHARGUTAI_STACK_SIZE 1048576
 
 /* Size of a reply. A shorter reply buffer gives 17; of a longer one the further bytes stay. */
 #define ZHARGUTAI_REPLY_SIZE 64
@@ -31,6 +47,21 @@ extern "C" {
 /* The most numbers in a sequence of Clifford elements, and how many elements there are, from 0 on. */
 #define ZHARGUTAI_SEQUENCE_MOST 4096
 #define ZHARGUTAI_ELEMENTS 24
+
+/* Codes of gates. Qubits count from 1. The control is 0 for codes 1 to 8, else a qubit other than the target. */
+#define ZHARGUTAI_GATE_X 1
+#define ZHARGUTAI_GATE_Y 2
+#define ZHARGUTAI_GATE_Z 3
+#define ZHARGUTAI_GATE_H 4
+#define ZHARGUTAI_GATE_S 5
+#define ZHARGUTAI_GATE_SDG 6
+#define ZHARGUTAI_GATE_T 7
+#define ZHARGUTAI_GATE_TDG 8
+#define ZHARGUTAI_GATE_CX 9
+#define ZHARGUTAI_GATE_CZ 10
+
+/* One gate as an initializer: static const uint8_t h[] = {ZHARGUTAI_GATE(ZHARGUTAI_GATE_H, 1, 0)}; */
+#define ZHARGUTAI_GATE(code, target, control) 'G', 'T', (code), (target), (control), 0
 
 /* The reply (docs/REPLY.md). Numbers of more than one byte are little-endian.
  *
@@ -59,7 +90,8 @@ extern "C" {
 #define ZHARGUTAI_FAILS 3
 #define ZHARGUTAI_UNDECIDED 4
 
-/* Applies one gate to a set of states.
+/* Applies one gate to a set of states. The new set has the same roots and words: each root and word gives the state that the
+ * gate's matrix makes of its old state, or gives none as before.
  *
  *   set      a set file (source 1 of a refusal)
  *   circuit  exactly one gate, ZHARGUTAI_GATE_SIZE bytes (source 2); another length is refused with 11
@@ -153,6 +185,26 @@ uint32_t zhargutai_closing(const uint8_t *sequence, size_t sequence_len,
 uint32_t zhargutai_spell(uint32_t element,
                          uint8_t *output, size_t output_len,
                          uint8_t *reply, size_t reply_len);
+
+/* What a reply says. Each reads a reply of ZHARGUTAI_REPLY_SIZE bytes. */
+static inline uint32_t zhargutai_u32(const uint8_t *b) {
+    return (uint32_t)b[0] | (uint32_t)b[1] << 8 | (uint32_t)b[2] << 16 | (uint32_t)b[3] << 24;
+}
+
+/* One of the kinds above. */
+static inline unsigned zhargutai_kind(const uint8_t *reply) { return reply[ZHARGUTAI_REPLY_KIND]; }
+
+/* Number, source and place of a refusal; 0 if nothing was refused. */
+static inline unsigned zhargutai_number(const uint8_t *reply) { return reply[ZHARGUTAI_REPLY_NUMBER]; }
+static inline unsigned zhargutai_source(const uint8_t *reply) { return reply[ZHARGUTAI_REPLY_SOURCE]; }
+static inline uint32_t zhargutai_place(const uint8_t *reply) { return zhargutai_u32(reply + ZHARGUTAI_REPLY_PLACE); }
+
+/* Starts that hold, the place of the first that fails, starts examined, or the length of a new set. */
+static inline uint32_t zhargutai_count(const uint8_t *reply) { return zhargutai_u32(reply + ZHARGUTAI_REPLY_COUNT); }
+
+/* Root of the first start that fails, and its choice on a level, 1 to n + 1. */
+static inline uint32_t zhargutai_root(const uint8_t *reply) { return zhargutai_u32(reply + ZHARGUTAI_REPLY_ROOT); }
+static inline unsigned zhargutai_choice(const uint8_t *reply, unsigned level) { return reply[ZHARGUTAI_REPLY_WORD + level - 1]; }
 
 #ifdef __cplusplus
 }
