@@ -23,3 +23,4 @@ echo "the example prints what it must"
 
 PYTHONDONTWRITEBYTECODE=1 python3 tests/reference/check_cases.py "$out/cases"
 "$out/check" "$out/cases"
+PYTHONDONTWRITEBYTECODE=1 python3 tests/tools/cases.py "$out/cases"

@@ -18,6 +18,7 @@ done
 
 PYTHONDONTWRITEBYTECODE=1 python3 tests/reference/gate_cases.py "$out/cases"
 "$out/gates" "$out/cases"
+PYTHONDONTWRITEBYTECODE=1 python3 tests/tools/cases.py "$out/cases"
 
 "$out/one_gate" >"$out/printed"
 diff - "$out/printed" <<'LINES'

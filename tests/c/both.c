@@ -22,7 +22,7 @@ static void must_reply(const char *what, uint32_t returned, const uint8_t *reply
     must(what, reply[ZHARGUTAI_REPLY_KIND], kind);
     must(what, reply[ZHARGUTAI_REPLY_NUMBER], number);
     must(what, reply[ZHARGUTAI_REPLY_SOURCE], source);
-    must(what, u32_at(reply + ZHARGUTAI_REPLY_PLACE), place);
+    must(what, zhargutai_u32(reply + ZHARGUTAI_REPLY_PLACE), place);
 }
 
 static uint8_t first[ZHARGUTAI_OUTPUT_SIZE], second[ZHARGUTAI_OUTPUT_SIZE], reply[ZHARGUTAI_REPLY_SIZE];
@@ -31,13 +31,13 @@ static uint8_t first[ZHARGUTAI_OUTPUT_SIZE], second[ZHARGUTAI_OUTPUT_SIZE], repl
 static void by_gates(void) {
     uint32_t r = zhargutai_one_gate(basis, sizeof basis, circuit, ZHARGUTAI_GATE_SIZE, first, sizeof first, reply, sizeof reply);
     must_reply("H", r, reply, ZHARGUTAI_MADE, 0, 0, 0);
-    uint32_t len = u32_at(reply + ZHARGUTAI_REPLY_COUNT);
+    uint32_t len = zhargutai_u32(reply + ZHARGUTAI_REPLY_COUNT);
     r = zhargutai_one_gate(first, len, circuit + ZHARGUTAI_GATE_SIZE, ZHARGUTAI_GATE_SIZE, second, sizeof second, reply, sizeof reply);
     must_reply("CX", r, reply, ZHARGUTAI_MADE, 0, 0, 0);
-    len = u32_at(reply + ZHARGUTAI_REPLY_COUNT);
+    len = zhargutai_u32(reply + ZHARGUTAI_REPLY_COUNT);
     r = zhargutai_check(second, len, circuit, 0, bell, sizeof bell, 4, reply, sizeof reply);
     must_reply("the set that was built", r, reply, ZHARGUTAI_HOLDS, 0, 0, 0);
-    must("its members", u32_at(reply + ZHARGUTAI_REPLY_COUNT), 4);
+    must("its members", zhargutai_u32(reply + ZHARGUTAI_REPLY_COUNT), 4);
 }
 
 /* The circuit in one check, and with CX's sign flipped by a Z after it. */
@@ -46,15 +46,15 @@ static void by_check(void) {
     const uint8_t z_on_2[ZHARGUTAI_GATE_SIZE] = {'G', 'T', 3, 2, 0, 0};
     uint32_t r = zhargutai_check(basis, sizeof basis, circuit, sizeof circuit, bell, sizeof bell, 3, reply, sizeof reply);
     must_reply("three of four", r, reply, ZHARGUTAI_UNDECIDED, 0, 0, 0);
-    must("three of four", u32_at(reply + ZHARGUTAI_REPLY_COUNT), 3);
+    must("three of four", zhargutai_u32(reply + ZHARGUTAI_REPLY_COUNT), 3);
     r = zhargutai_check(bell, sizeof bell, circuit, 0, basis, sizeof basis, 4, reply, sizeof reply);
     must_reply("no Bell state is a basis state", r, reply, ZHARGUTAI_FAILS, 0, 0, 0);
-    must("no Bell state is a basis state", u32_at(reply + ZHARGUTAI_REPLY_COUNT), 1);
+    must("no Bell state is a basis state", zhargutai_u32(reply + ZHARGUTAI_REPLY_COUNT), 1);
     memcpy(longer, circuit, sizeof circuit);
     memcpy(longer + sizeof circuit, z_on_2, sizeof z_on_2);
     r = zhargutai_check(basis, sizeof basis, longer, sizeof longer, bell, sizeof bell, 4, reply, sizeof reply);
     must_reply("a sign flipped", r, reply, ZHARGUTAI_FAILS, 0, 0, 0);
-    must("a sign flipped", u32_at(reply + ZHARGUTAI_REPLY_COUNT), 2);
+    must("a sign flipped", zhargutai_u32(reply + ZHARGUTAI_REPLY_COUNT), 2);
 }
 
 /* A refusal of each source, by both jobs where both have it. */
