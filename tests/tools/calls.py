@@ -75,6 +75,7 @@ with tempfile.TemporaryDirectory() as made:
     slow = script(folder, "slow", "exec sleep 20")
     says("out of time", check("basis", "circuit", "bell", "--timeout", "0.3"), 5, errors=["out of time: no answer within 0.3 seconds"], program=slow)
     says("a program that says something else", check(), 4, errors=["printed no line of its own: oh"], program=script(folder, "other", "echo oh >&2; echo perhaps 1"))
+    says("too little stack", check(), 4, errors=["ended by signal 11; it needs about 1 MB of stack"], program=script(folder, "little", f"ulimit -s 400; exec {program}"))
     says("a program that dies", check(), 4, errors=["ended by signal 11"], program=script(folder, "dies", "kill -SEGV $$"))
     got = json.loads(says("json", check("basis", "h", "bell", "--json"), 1))
     tally.same("json", {k: got[k] for k in ("line", "status", "verdict", "place", "root", "word")},

@@ -30,6 +30,10 @@ def show(a):
     return 0
 
 
+def counted(count, what):
+    return f"{count} {what}" + ("" if count == 1 else "s")
+
+
 def dumped(b):
     """A set or a circuit record by record: offset, bytes, meaning."""
     out = []
@@ -40,10 +44,10 @@ def dumped(b):
         level, rows = 0, []
         for number, kind, at, r in sets.records(b):
             if kind == "HD":
-                what = f"version {s.version}, n {s.n}, k {s.k}, zero {s.zero}; {s.total()} states, {len(s.inner)} inner, {len(s.leaves)} leaves"
+                what = f"version {s.version}, n {s.n}, k {s.k}, zero {s.zero}; {counted(s.total(), 'state')}, {len(s.inner)} inner, {len(s.leaves)} {'leaf' if len(s.leaves) == 1 else 'leaves'}"
             elif kind == "LV":
                 level += 1
-                what = f"level {level}: {s.counts[level - 1]} states"
+                what = f"level {level}: {counted(s.counts[level - 1], 'state')}"
             elif kind == "TR":
                 q, m, left, right = s.inner[number - s.n - 2]
                 what = f"state {q}, choices {text.shown_choices(m)}, left {left}, right {right}"
@@ -89,7 +93,7 @@ def lint_set(a):
         print(f"{a.set}: {lint.told(f)}")
     if len(found) > a.most:
         print(f"{a.set}: .. and {len(found) - a.most} more")
-    print(f"{len(found)} faults" if found else "no fault")
+    print(counted(len(found), "fault") if found else "no fault")
     return 1 if found else 0
 
 
@@ -105,7 +109,7 @@ def list_states(a):
         except states.TooLarge:
             shown = f"more than {states.TERMS:,} kets"
         print(f"{count:6}  root {root}  word {' '.join(map(str, word))}  {shown}")
-    print(f"{count} states" if count != 1 else "1 state")
+    print(counted(count, "state"))
     return 0
 
 

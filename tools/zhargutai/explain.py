@@ -102,8 +102,8 @@ def ending(image, e):
     if best is None:
         return [("Nearest end state", ["The end set has no state." if count == 0 else "Every end state that was looked at has too many kets to be shown."])]
     state, number, root, word, differ = best
-    scope = f"of the first {count:,} end states; there are more" if more else f"of all {count:,} end states"
-    lines = [f"{states.shown(state, e.n)}", f"number {number:,}, root {root}, word {' '.join(map(str, word))}; nearest {scope}"]
+    scope = f"nearest of the first {count:,} end states; there are more" if more else f"nearest of all {count:,} end states" if count > 1 else "the only end state"
+    lines = [f"{states.shown(state, e.n)}", f"number {number:,}, root {root}, word {' '.join(map(str, word))}; {scope}"]
     for i in differ[:states.SHOWN]:
         lines.append(f"{states.ket(i, e.n)}: the image has {amplitude_at(image, i)}, the end state {amplitude_at(state, i)}")
     if len(differ) > states.SHOWN:
