@@ -13,4 +13,5 @@ python3 tests/tools/roundtrip.py
 python3 tests/tools/damaged.py
 python3 tests/tools/constructions.py
 python3 tests/tools/calls.py "$program"
+python3 tests/tools/browser.py
 ZHARGUTAI=$program python3 tools/zt batch examples/jobs --expect -j 2

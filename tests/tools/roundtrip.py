@@ -1,7 +1,9 @@
-"""Sets, circuits and jobs go to text and back byte for byte: the files of crates/vectors and crates/mutations, 5,000 random sets, damaged ones, the jobs of examples."""
+"""Sets, circuits and jobs go to text and back byte for byte: the files of crates/vectors and crates/mutations, the families of tests/reference,
+5,000 random sets, damaged ones, the jobs of examples."""
 import random
 
 from common import ROOT, Tally, random_files
+import families
 from zhargutai import circuits, jobs, text
 
 tally, rng = Tally(), random.Random(21)
@@ -36,6 +38,9 @@ for b in kept:
         job = text.job_bytes(mark, rng.getrandbits(32), b, gates if mark != b"JQ" else b"OPENQASM 2.0;\nqreg q[2];\nh q[0];\n", kept[0])
         back(job, "job")
     back(job[:-1], "job")
+for n in (8, 20):
+    for name, start, circuit, end, allowance, _ in families.jobs(n):
+        back(text.job_bytes(b"JB", allowance, start, circuit, end), "job")
 for path in jobs.in_folder(str(ROOT / "examples" / "jobs")):
     back(jobs.whole(path).bytes, "job")
 tally.end("to text and back", 12000)
