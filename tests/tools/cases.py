@@ -1,4 +1,5 @@
-"""Every set of a file of cases (tests/reference/gate_cases.py, check_cases.py) goes to text and back unchanged, and lint finds what the reference refuses.
+"""Every set of a file of cases (tests/reference/gate_cases.py, check_cases.py) goes to text and back unchanged, lint finds what the reference refuses, and explain
+finds in the files what the line says.
 
 usage: cases.py CASES..
 """
@@ -6,7 +7,7 @@ import struct
 import sys
 
 from common import Tally
-from zhargutai import lint, text
+from zhargutai import explain, lint, text
 
 
 def gate_jobs(b):
@@ -38,6 +39,15 @@ def check_jobs(path):
         yield end, True, (number, place) if source == 3 else None, 0 < number < 13 and source < 3
 
 
+def explained(path, tally):
+    """Every third line is explained, and the explanation fits to it."""
+    from program import jobs_of
+    for i, (name, start, circuit, end, allowance, line) in enumerate(jobs_of(path)):
+        if i % 3 == 0:
+            said = explain.as_text(explain.explained(line, b"JB", allowance, start, circuit, end))
+            tally.holds(f"{name}, {line}: {said[:300]}", said and not any(odd in said for odd in ("own reading", "do not fit", "give no state", "no line of the program")))
+
+
 def main(paths):
     tally, seen, circuits = Tally(), set(), set()
     for path in paths:
@@ -58,6 +68,8 @@ def main(paths):
                 least = min((f.number if f.number < 80 else 8 for f in found), default=0)
                 tally.same("the refusal's number is lint's least", least, refusal[0] if refusal[0] < 80 else 8)
                 tally.holds(f"lint has the record of {refusal}", mine and (refusal[1] == 0 or mine[0].record == refusal[1]))
+        if b[:4] != b"ZGC1":
+            explained(path, tally)
     tally.end(f"{len(seen)} sets of cases, to text and back and linted", 1000)
 
 
