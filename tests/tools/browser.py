@@ -12,7 +12,7 @@ import sys
 import tempfile
 import zlib
 
-from common import ROOT, Tally, zt
+from common import Tally, zt
 
 STORED = pathlib.Path(__file__).with_name("wrong-sign.grid")
 WIDTH, HEIGHT, CELL = 640, 1600, 40

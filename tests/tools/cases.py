@@ -7,7 +7,7 @@ import struct
 import sys
 
 from common import Tally
-from zhargutai import explain, lint, text
+from zhargutai import explain, lint, settext, showing
 
 
 def gate_jobs(b):
@@ -49,15 +49,15 @@ def explained(path, tally):
 
 
 def main(paths):
-    tally, seen, circuits = Tally(), set(), set()
+    tally, seen = Tally(), set()
     for path in paths:
         b = open(path, "rb").read()
         for s, end, refusal, hidden in gate_jobs(b) if b[:4] == b"ZGC1" else check_jobs(path):
             if (s, end) in seen:
                 continue
             seen.add((s, end))
-            shown = text.show_set(s)
-            tally.holds("a set that went to text and back", text.pack_set(list(enumerate(shown.split("\n"), 1))) == s)
+            shown = showing.show_set(s)
+            tally.holds("a set that went to text and back", settext.pack_set(list(enumerate(shown.split("\n"), 1))) == s)
             if hidden:
                 continue
             found = lint.faults(s, end)

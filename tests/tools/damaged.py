@@ -3,12 +3,12 @@ import random
 import re
 
 from common import ROOT, Tally, random_files
-from zhargutai import jobs, text
+from zhargutai import jobs, showing, text
 from zhargutai.faults import Fault
 
 tally, rng = Tally(), random.Random(23)
 WRITTEN = "{}|>+-=/^()#.,:@ \t0123456789wixkqlevalstoffr\n\0é\x80"
-TEXTS = [(p.read_text(), "job") for p in sorted((ROOT / "examples" / "jobs").iterdir())] + [(text.show_set(b), "set") for b in random_files(60, 24) if len(b) < 3000]
+TEXTS = [(p.read_text(), "job") for p in sorted((ROOT / "examples" / "jobs").iterdir())] + [(showing.show_set(b), "set") for b in random_files(60, 24) if len(b) < 3000]
 
 
 def tried(b, kind):

@@ -4,7 +4,7 @@ import random
 
 from common import ROOT, Tally, random_files
 import families
-from zhargutai import circuits, jobs, text
+from zhargutai import circuits, jobs, showing, text
 
 tally, rng = Tally(), random.Random(21)
 
@@ -34,13 +34,13 @@ for b in kept:
     gates = b"".join(circuits.record(rng.randint(0, 13), rng.randint(0, 20), rng.choice((0, 0, 1, 2)), rng.choice((0, 0, 0, 3))) for _ in range(rng.randint(0, 9)))
     back(gates, "circuit")
     back(gates[:-2], "circuit")
-    for mark in text.MARKS:
-        job = text.job_bytes(mark, rng.getrandbits(32), b, gates if mark != b"JQ" else b"OPENQASM 2.0;\nqreg q[2];\nh q[0];\n", kept[0])
+    for mark in showing.MARKS:
+        job = showing.job_bytes(mark, rng.getrandbits(32), b, gates if mark != b"JQ" else b"OPENQASM 2.0;\nqreg q[2];\nh q[0];\n", kept[0])
         back(job, "job")
     back(job[:-1], "job")
 for n in (8, 20):
     for name, start, circuit, end, allowance, _ in families.jobs(n):
-        back(text.job_bytes(b"JB", allowance, start, circuit, end), "job")
+        back(showing.job_bytes(b"JB", allowance, start, circuit, end), "job")
 for path in jobs.in_folder(str(ROOT / "examples" / "jobs")):
     back(jobs.whole(path).bytes, "job")
 tally.end("to text and back", 12000)

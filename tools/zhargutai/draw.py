@@ -2,7 +2,7 @@
 from html import escape
 
 from . import amplitudes, sets
-from .text import shown_choices
+from .showing import shown_choices
 
 STATES, ROWS = 24, 64
 GAP, HEIGHT, RADIUS, EDGE = 110, 120, 15, 50

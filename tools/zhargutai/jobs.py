@@ -3,7 +3,9 @@ import os
 from collections import namedtuple
 
 from . import text
-from .faults import Fault, Unread, read_file
+from .faults import Fault, Unread, read_file, text_of
+from .jobtext import ALL, JobText
+from .showing import job_bytes, parts_of_job
 
 Job = namedtuple("Job", "name mark allow start circuit end expect bytes")
 
@@ -28,13 +30,13 @@ def whole(path):
     expect = None
     if text.is_text(b):
         try:
-            job = text.JobText([(at, line.rstrip("\r")) for at, line in text.text_of(b, path)], beside(path))
+            job = JobText([(at, line.rstrip("\r")) for at, line in text_of(b, path)], beside(path))
             b, expect = job.bytes(), job.expect
         except Fault as fault:
             if fault.name is None:
                 fault.name = path
             raise
-    parts = text.parts_of_job(b) or (b[:2], 0, b"", b"", b"")
+    parts = parts_of_job(b) or (b[:2], 0, b"", b"", b"")
     return Job(path, *parts, expect, b)
 
 
@@ -47,15 +49,15 @@ def asked(arguments):
         raise Fault("a job was expected: one file, or --start, --circuit and --end")
     if arguments.job:
         job = whole(arguments.job)
-        if text.parts_of_job(job.bytes) is None:
+        if parts_of_job(job.bytes) is None:
             return job
     else:
         mark = (arguments.mark or "JB").encode()
         start, circuit, end = part(given[0], "set"), part(given[1], "circuit", mark == b"JQ"), part(given[2], "set")
-        job = Job(" ".join(given), mark, text.ALL, start, circuit, end, None, b"")
+        job = Job(" ".join(given), mark, ALL, start, circuit, end, None, b"")
     mark = arguments.mark.encode() if arguments.mark else job.mark
     allow = job.allow if arguments.allow is None else arguments.allow
-    return job._replace(mark=mark, allow=allow, bytes=text.job_bytes(mark, allow, job.start, job.circuit, job.end))
+    return job._replace(mark=mark, allow=allow, bytes=job_bytes(mark, allow, job.start, job.circuit, job.end))
 
 
 def in_folder(folder):

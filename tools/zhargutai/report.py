@@ -1,7 +1,7 @@
 """One HTML page on one job, with no outside files: the line, what it means, both sets drawn, the circuit."""
 from html import escape
 
-from . import circuits, draw, explain, gates, program, sets, text, version
+from . import circuits, draw, explain, gates, program, sets, showing, version
 
 STYLE = """body{font:16px/1.5 sans-serif;max-width:70em;margin:2em auto;padding:0 1em;color:#222}h1{font-size:1.4em}h2{font-size:1.1em;margin-top:1.6em}
 pre{background:#f6f6f6;padding:.8em;overflow-x:auto}.line{font:bold 1.2em monospace;padding:.6em;border-left:.4em solid #888;background:#f6f6f6}
@@ -13,7 +13,7 @@ COLOURS = {program.HOLDS: "holds", program.FAILS: "fails", program.UNDECIDED: "u
 def picture(b, title):
     s = sets.from_bytes(b)
     if s is None or not 1 <= s.n <= 20 or sum(s.counts) == 0 or any(x >= sum(s.counts) for q, _, left, right in s.inner for x in (q, left, right)):
-        return f"<pre>{escape(text.show_set(b)[:4000])}</pre>"
+        return f"<pre>{escape(showing.show_set(b)[:4000])}</pre>"
     return f'<div class="picture">{draw.svg(s, title)}</div>'
 
 
