@@ -1,9 +1,12 @@
-"""Damaged text gives a message that names the file and the line, and never a traceback: 4,000 texts with a character or a line changed, and some by hand."""
+"""Damaged text gives a message that names the file and the line, and never a traceback: 4,000 texts with a character or a line changed, and some by hand.
+
+Nor does a line that is not the job's.
+"""
 import random
 import re
 
 from common import ROOT, Tally, random_files
-from zhargutai import jobs, showing, text
+from zhargutai import explain, jobs, report, showing, text
 from zhargutai.faults import Fault
 
 tally, rng = Tally(), random.Random(23)
@@ -62,4 +65,18 @@ for given, kind, message in HAND:
         tally.same(given, "taken", message)
     except Fault as fault:
         tally.same(given, re.sub(r"^damaged\.zt(:[0-9]+)?(?=: a (set|line) )", "", str(fault)).removeprefix("damaged.zt") if message[0] == ":" else str(fault), message)
+
+# a line that is not the job's, parts that are no sets: the words may be few, and there are some
+LINES = ["refused 8 1 0", "refused 81 1 3", "refused 84 3 9", "refused 9 1 70", "refused 10 3 5", "refused 6 1 2", "refused 13 0 0", "refused 14 2 1", "refused 16 2 9", "refused 12 2 99",
+         "refused 18 0 0", "refused 20 2 1", "fails 1 0 0 0 0", "fails 1 70000 0 0", "fails 9 0 99 99 99", "holds 0", "undecided 3", "holds", "what", ""]
+packed = [jobs.whole(path) for path in jobs.in_folder(str(ROOT / "examples" / "jobs"))]
+for i in range(600):
+    job, line = rng.choice(packed), rng.choice(LINES)
+    parts = [job.start, job.circuit, job.end]
+    if i % 2:
+        spoiled = bytearray(parts[i % 3]) or bytearray(b"x")
+        spoiled[rng.randrange(len(spoiled))] = rng.randrange(256)
+        parts[i % 3] = bytes(spoiled)[:rng.choice((None, None, 13))]
+    explained = explain.as_text(explain.explained(line, b"JB", 4, *parts)) if i % 3 else report.page("job", line, "", b"JB", 4, *parts)
+    tally.holds(f"{job.name}, {line!r}", len(explained) > 20)
 tally.end("damaged texts", 4000)

@@ -27,6 +27,14 @@ def gates(b):
     return [g for g in map(gate_of, pieces(b)) if g]
 
 
+def known(gate, n):
+    """Whether a gate stands as it should, on n qubits."""
+    if gate[0] not in NAMES:
+        return False
+    qubits, rest = gate[1:1 + QUBITS[gate[0]]], gate[1 + QUBITS[gate[0]]:]
+    return all(1 <= q <= n for q in qubits) and len(set(qubits)) == len(qubits) and not any(rest)
+
+
 def spelled(r):
     """The line of one record."""
     g = gate_of(r)

@@ -50,6 +50,11 @@ def undecided(count, allow):
                               "A larger --allow goes on; it never changes a holds, a fails or a refusal."])]
 
 
+def readable(b):
+    """The set, where nothing is wrong with it."""
+    return None if lint.faults(b) else sets.from_bytes(b)
+
+
 # ---- failures
 def nearest(image, end, n):
     """(end state, its number, root and word, kets that differ), how many were looked at, whether there are more; and the power of ω that would do."""
@@ -76,9 +81,9 @@ def amplitude_at(x, i):
 
 
 def fails(place, root, word, start, circuit, end):
-    s, e = sets.from_bytes(start), sets.from_bytes(end)
-    if s is None or e is None or len(word) != s.n + 1:
-        return [("What it says", [f"Start {place:,} is not carried into the end set. Its root and word do not fit to these files, so that nothing more can be said."])]
+    s, e = readable(start), readable(end)
+    if s is None or e is None or len(word) != s.n + 1 or s.n != e.n or not all(circuits.known(g, s.n) for g in circuits.gates(circuit)):
+        return [("What it says", [f"Start {place:,} is not carried into the end set. The line does not fit to these files, so that nothing more can be said."])]
     said = [("What it says", [f"Start {place:,} is the first that does not end in a state of the end set: root {root}, word {' '.join(map(str, word))}."])]
     try:
         state = states.state_of(s, root, word)
@@ -141,7 +146,7 @@ def refused(number, source, place, mark, start, circuit, end):
             said.append(("Gate at fault", about))
     elif number in (14, 15, 16) and place:
         said += at_gate(number, place, start, circuit)
-    elif number == 13:
+    elif number == 13 and sets.header(start) and sets.header(end):
         said.append(("Qubits", [f"the start set has {sets.header(start)[1]} qubits, the end set {sets.header(end)[1]}"]))
     elif number == 18:
         said.append(("Input", [f"mark {mark!r}, parts of {len(start):,}, {len(circuit):,} and {len(end):,} bytes, each at most 65,536"]))
@@ -149,9 +154,9 @@ def refused(number, source, place, mark, start, circuit, end):
 
 
 def at_gate(number, place, start, circuit):
-    s, all_gates = sets.from_bytes(start), circuits.gates(circuit)
-    if s is None or place > len(all_gates):
-        return []
+    s, all_gates = readable(start), circuits.gates(circuit)
+    if s is None or place > len(all_gates) or not all(circuits.known(g, s.n) for g in all_gates):
+        return [("Does not fit", ["These files have no such gate: is the line of another job?"])]
     lines = [f"gate {place}: {circuits.spelled(circuits.record(*all_gates[place - 1]))}"]
     for _, after in sized(s, all_gates[:place - 1]):
         s = after

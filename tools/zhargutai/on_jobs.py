@@ -17,8 +17,8 @@ def line_for(a, job):
         line = a.line or job.expect
         if not line:
             raise Fault("has no `expect`, which --expected asks for", name=job.name)
-        word = line.split()[0]
-        if word not in program.STATUS:
+        word = line.partition(" ")[0]
+        if program.fields(line) is None:
             raise Fault(f"a line of the program was expected, found {line!r}")
         return line, program.STATUS[word], "The line was given, not asked for here." if a.line else "The line is the one recorded in the job's file; the program was not asked here."
     ran = program.run(program.find(a.program), job.bytes, a.timeout)

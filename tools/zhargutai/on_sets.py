@@ -115,7 +115,7 @@ def list_sizes(a):
     print(f"{0:5} {'start':10} {sum(s.counts):7} {len(s.inner):7} {len(s.leaves):7} {s.k:3}")
     for i, gate in enumerate(all_gates, 1):
         name = circuits.spelled(circuits.record(*gate))
-        if gate[0] not in circuits.NAMES or gate[0] == 12 or not all(1 <= q <= s.n for q in gate[1:2 if gate[0] <= 8 else 3]):
+        if gate[0] == 12 or not circuits.known(gate, s.n):
             raise Fault(f"gate {i}, {name}: sizes are known for X to CZ and SWAP on qubits 1 to {s.n}", name=a.circuit)
         after = gates.built(s, gate)
         if after is None:

@@ -49,8 +49,8 @@ def run(path, job, timeout=None):
 
 def fields(line):
     """The line's parts by name; None where it is no line of the program."""
-    word, *rest = line.split()
-    if word not in STATUS or not rest or not all(r.isdigit() for r in rest):
+    word, *rest = line.split() or [""]
+    if word not in STATUS or not rest or not all(r.isdecimal() and r.isascii() for r in rest):
         return None
     numbers = [int(r) for r in rest]
     if word == "refused" and len(numbers) == 3:

@@ -1,7 +1,7 @@
 """One HTML page on one job, with no outside files: the line, what it means, both sets drawn, the circuit."""
 from html import escape
 
-from . import circuits, draw, explain, gates, program, sets, showing, version
+from . import circuits, draw, explain, gates, lint, program, sets, showing, version
 
 STYLE = """body{font:16px/1.5 sans-serif;max-width:70em;margin:2em auto;padding:0 1em;color:#222}h1{font-size:1.4em}h2{font-size:1.1em;margin-top:1.6em}
 pre{background:#f6f6f6;padding:.8em;overflow-x:auto}.line{font:bold 1.2em monospace;padding:.6em;border-left:.4em solid #888;background:#f6f6f6}
@@ -20,7 +20,7 @@ def picture(b, title):
 def circuit_table(start, circuit, most=200):
     """The gates, with what each makes of the start set, as far as that can be built."""
     all_gates, s = circuits.gates(circuit), sets.from_bytes(start)
-    if s is None or not all_gates or any(not 1 <= q <= s.n for g in all_gates for q in g[1:2]):
+    if lint.faults(start) or not all_gates or not all(circuits.known(gate, s.n) for gate in all_gates):
         return f"<pre>{escape(circuits.shown(circuit)[:4000]) or 'no gate'}</pre>"
     rows = ["<tr><th></th><th>gate</th><th>states</th><th>inner</th><th>leaves</th></tr>", "<tr><td>0</td><td>start</td>" + "".join(f"<td>{x}</td>" for x in gates.sizes(s)) + "</tr>"]
     for i, (gate, after) in enumerate(explain.sized(s, all_gates[:most]), 1):
