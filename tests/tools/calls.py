@@ -104,6 +104,9 @@ with tempfile.TemporaryDirectory() as made:
              "54 52 00 00 01 00 00 00 01 00 00 00")
     for line in ("refused 9 1 0", "refused 9 1 4"):
         says(f"explain, {line}", ["explain", "--start", at["wrong"], "--circuit", at["h"], "--end", at["wrong"], "--line", line], 3, "9: record 4 at byte 32: its mask is zero")
+    (folder / "qasm").write_text("OPENQASM 2.0;\nqreg q[1];\nu1(pi/3) q[0];\n")
+    says("explain, a circuit of another language", ["explain", "--start", at["basis"], "--circuit", folder / "qasm", "--end", at["bell"], "--mark", "JQ", "--line", "refused 20 2 3"], 3,
+         "line 3 of the circuit: u1(pi/3) q[0];")
     says("lint", ["lint", at["wrong"]], 1, "program: refused 8", "83: record 3 at byte 20", "9: record 4 at byte 32", "2 faults")
     says("lint of a good set", ["lint", at["basis"]], 0, "program: takes it as a start set", "no fault")
     says("lint --end", ["lint", "--end", at["bell"]], 0, "program: takes it as an end set", "no fault")

@@ -132,6 +132,9 @@ def figures(tally):
         "docs/FORMAT.md": [f"at most {states:,}; {sets.END_STATES} in an end set", f"at most {inner:,}", f"at most {leaves:,}", "56 bytes"],
         "README.md": [f"`{kit}`"] if kit else [],
     }
+    numbers = {name: set(map(int, re.findall(r"^\| ([0-9]+) \| ", (ROOT / name).read_text(), re.M))) - {0} for name in ("docs/RULES.md", "docs/USE.md")}
+    rules, use = numbers["docs/RULES.md"], numbers["docs/USE.md"]
+    tally.holds(f"docs/USE.md has every refusal of docs/RULES.md: {sorted(rules ^ use)}", use in (rules, rules - {81, 82, 83, 84} | {8}))
     for name, parts in said.items():
         for part in parts:
             tally.holds(f"{name} says {part!r}", part in (ROOT / name).read_text())

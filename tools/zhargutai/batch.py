@@ -30,6 +30,8 @@ def one(path, arguments, asked):
 def run(arguments):
     asked, paths, began = program.find(arguments.program), jobs.in_folder(arguments.folder), time.monotonic()
     seen, terminal = Counter(), sys.stderr.isatty()
+    if terminal:
+        print(f"0 of {len(paths)}", end="", file=sys.stderr, flush=True)
     with ThreadPoolExecutor(max(1, arguments.jobs)) as pool:
         for done, (path, (status, line)) in enumerate(zip(paths, pool.map(lambda p: one(p, arguments, asked), paths)), 1):
             seen[status] += 1

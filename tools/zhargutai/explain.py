@@ -136,6 +136,10 @@ def refused(number, source, place, mark, start, circuit, end):
         if not found:
             lines = ["By this tool's own reading nothing of that kind is there. The program's line counts."]
         said.append(("Record at fault", lines))
+    elif mark == b"JQ" and source == 2:
+        lines = circuit.decode("ascii", "replace").split("\n")
+        if 0 < place <= len(lines):
+            said.append(("Line at fault", [f"line {place} of the circuit: {lines[place - 1][:200]}"]))
     elif number == 12 and place:
         pieces = circuits.pieces(circuit)
         if place <= len(pieces):
@@ -190,6 +194,9 @@ def explained(line, mark, allow, start, circuit, end):
         return holds(f["count"])
     if f["verdict"] == "undecided":
         return undecided(f["count"], allow)
+    if f["verdict"] == "fails" and mark == b"JQ":
+        return [("What it says", [f"Start {f['place']:,} is the first that does not end in a state of the end set: root {f['root']}, word {' '.join(map(str, f['word']))}."]),
+                ("Not shown", ["The circuit is text of another language: the state is not followed through it here."])]
     if f["verdict"] == "fails":
         return fails(f["place"], f["root"], tuple(f["word"]), start, circuit, end)
     return refused(f["number"], f["source"], f["place"], mark, start, circuit, end)
