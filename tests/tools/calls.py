@@ -124,7 +124,7 @@ with tempfile.TemporaryDirectory() as made:
     tally.holds("draw: a picture", picture.startswith("<svg ") and picture.count("<circle class=\"state") == 4 + 4 + 3 and "{0}" in picture)
     says("report", ["report", JOBS / "wrong-sign.zt", "-o", folder / "page.html"], 1, "fails 1 0 0 0 0")
     page = (folder / "page.html").read_text()
-    tally.holds("report: one page", page.count("<svg") == 2 and "the image has -1/sqrt2" in page and "src=" not in page and "href=" not in page)
+    tally.holds("report: one page", page.count("<svg") == 3 and "the image has -1/sqrt2" in page and "src=" not in page and "href=" not in page)
     for path in sorted(JOBS.iterdir()):
         got = zt("report", path, "--expected", "-o", folder / "page.html")
         tally.holds(f"report of {path.name}: {got[2][:200]!r}", got[0] in range(4) and not got[2])

@@ -35,10 +35,14 @@ BLOCK = re.compile(r"^```console\n(.*?)^```$", re.M | re.S)
 
 def own_files():
     """The files of a clean clone: what git knows, as it stands here."""
-    listed = subprocess.run(["git", "ls-files", "-z", "--cached", "--others", "--exclude-standard"], cwd=ROOT, capture_output=True)
+    listed = subprocess.run(["git", "-c", "safe.directory=*", "ls-files", "-z", "--cached", "--others", "--exclude-standard"], cwd=ROOT, capture_output=True)
     if listed.returncode == 0:
         return [name for name in listed.stdout.decode().split("\0") if name and (ROOT / name).is_file()]
-    return [str(p.relative_to(ROOT)) for p in ROOT.rglob("*") if p.is_file() and not {"target", ".git", "__pycache__"} & set(p.relative_to(ROOT).parts)]
+    found = []
+    for folder, inside, names in os.walk(ROOT):
+        inside[:] = [name for name in inside if name not in ("target", ".git", "__pycache__")]
+        found += [os.path.relpath(os.path.join(folder, name), ROOT) for name in names]
+    return found
 
 
 class Clone:
@@ -157,7 +161,7 @@ def main(words):
             ran += count
             if name == "README.md":
                 page = clones[which].root / "wrong-sign.html"
-                tally.holds("README.md leads to a failing example explained in a picture", page.exists() and page.read_text().count("<svg") == 2)
+                tally.holds("README.md leads to a failing example explained in a picture", page.exists() and page.read_text().count("<svg") == 3)
         if write and new != text:
             (ROOT / name).write_text(new)
         if not write:

@@ -4,9 +4,12 @@ What is said follows the line; where this tool's own reading of the files does n
 """
 import itertools
 import re
+from collections import namedtuple
 
-from . import ROOT, amplitudes, circuits, gates, lint, program, sets, states
+from . import ROOT, amplitudes, circuits, disks, gates, lint, program, sets, states
 
+# a part of an explanation; picture is SVG or None
+Section = namedtuple("Section", "heading lines picture", defaults=(None,))
 ENDS = 2000
 GATES = 64
 PAGE = "docs/USE.md"
@@ -56,7 +59,7 @@ def readable(b):
 
 
 # ---- failures
-def nearest(image, end, n):
+def nearest(image, end):
     """(end state, its number, root and word, kets that differ), how many were looked at, whether there are more; and the power of ω that would do."""
     best, phase, count, more = None, None, 0, False
     for count, (root, word) in enumerate(itertools.islice(states.members(end), ENDS + 1), 1):
@@ -104,7 +107,7 @@ def fails(place, root, word, start, circuit, end):
 
 
 def ending(image, e):
-    best, phase, count, more = nearest(image, e, e.n)
+    best, phase, count, more = nearest(image, e)
     if best is None:
         return [("Nearest end state", ["The end set has no state." if count == 0 else "Every end state that was looked at has too many kets to be shown."])]
     state, number, root, word, differ = best
@@ -114,7 +117,7 @@ def ending(image, e):
         lines.append(f"{states.ket(i, e.n)}: the image has {amplitude_at(image, i)}, the end state {amplitude_at(state, i)}")
     if len(differ) > states.SHOWN:
         lines.append(f".. and {len(differ) - states.SHOWN} more kets differ")
-    said = [("Nearest end state", lines)]
+    said = [("Nearest end state", lines, disks.compared(image, state, e.n, differ))]
     if not differ:
         said.append(("Does not fit", ["By this tool's own reading the image is that end state. The program's line counts; please look at both."]))
     if phase:
@@ -186,7 +189,11 @@ def sized(s, all_gates):
 
 
 def explained(line, mark, allow, start, circuit, end):
-    """[(heading, lines)] for a line of the program."""
+    """The sections for a line of the program."""
+    return [Section(*part) for part in parts(line, mark, allow, start, circuit, end)]
+
+
+def parts(line, mark, allow, start, circuit, end):
     f = program.fields(line)
     if f is None:
         return [("What it says", ["This is no line of the program: holds, fails, undecided or refused with its numbers was expected."])]
@@ -203,4 +210,4 @@ def explained(line, mark, allow, start, circuit, end):
 
 
 def as_text(sections):
-    return "".join(f"{heading}\n" + "".join(f"  {line}\n" for line in lines) for heading, lines in sections)
+    return "".join(f"{part.heading}\n" + "".join(f"  {line}\n" for line in part.lines) for part in sections)

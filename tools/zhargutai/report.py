@@ -34,7 +34,7 @@ def page(name, line, asked, mark, allow, start, circuit, end):
     """The page; asked says where the line is from."""
     f = program.fields(line)
     kind = f["verdict"] if f else "refused"
-    said = "".join(f"<h2>{escape(heading)}</h2><pre>{escape(chr(10).join(lines))}</pre>" for heading, lines in explain.explained(line, mark, allow, start, circuit, end))
+    said = "".join(f"<h2>{escape(part.heading)}</h2><pre>{escape(chr(10).join(part.lines))}</pre>{part.picture or ''}" for part in explain.explained(line, mark, allow, start, circuit, end))
     return f"""<!DOCTYPE html>
 <html lang="en"><head><meta charset="utf-8"><title>{escape(name)}: {escape(line)}</title><style>{STYLE}</style></head><body>
 <h1>{escape(name)}</h1>
