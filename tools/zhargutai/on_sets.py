@@ -1,9 +1,10 @@
 """The commands on one set or circuit: pack, show, lint, states, sizes, draw. Each takes the words of the call and gives its exit status."""
 import itertools
 
-from . import circuits, draw, gates, jobs, lint, program, sets, states, text
+from . import circuits, draw, dumping, gates, jobs, lint, program, sets, states, text
+from .dumping import counted
 from .faults import Fault, read_file, write_file
-from .showing import job_bytes, shown_choices
+from .showing import job_bytes
 
 
 def pack(a):
@@ -19,43 +20,10 @@ def show(a):
         kind, b = text.pack(b, a.file, a.kind, jobs.beside(a.file))
         a.kind = a.kind or kind
     if a.bytes:
-        write_file(a.output, dumped(b).encode())
+        write_file(a.output, dumping.dumped(b).encode())
         return 0
     write_file(a.output, text.show(b, a.kind)[1].encode())
     return 0
-
-
-def counted(count, what):
-    return f"{count} {what}" + ("" if count == 1 else "s")
-
-
-def dumped(b):
-    """A set or a circuit record by record: offset, bytes, meaning."""
-    out = []
-    s = sets.from_bytes(b)
-    if b[:2] == b"GT":
-        rows = [(6 * i, r, circuits.spelled(r)) for i, r in enumerate(circuits.pieces(b))]
-    elif s is not None:
-        level, rows = 0, []
-        for number, kind, at, r in sets.records(b):
-            if kind == "HD":
-                what = f"version {s.version}, n {s.n}, k {s.k}, zero {s.zero}; {counted(s.total(), 'state')}, {len(s.inner)} inner, {len(s.leaves)} {'leaf' if len(s.leaves) == 1 else 'leaves'}"
-            elif kind == "LV":
-                level += 1
-                what = f"level {level}: {counted(s.counts[level - 1], 'state')}"
-            elif kind == "TR":
-                q, m, left, right = s.inner[number - s.n - 2]
-                what = f"state {q}, choices {shown_choices(m)}, left {left}, right {right}"
-            else:
-                q, m, x = s.leaves[number - s.n - 2 - len(s.inner)]
-                what = f"state {q}, choices {shown_choices(m)}, a b c d = {' '.join(map(str, x))}"
-            rows.append((at, r, f"{kind} {what}"))
-    else:
-        rows = [(at, b[at:at + 12], "") for at in range(0, len(b), 12)]
-    for at, r, what in rows:
-        for i in range(0, len(r), 12):
-            out.append(f"{at + i:5}  {' '.join(f'{x:02x}' for x in r[i:i + 12]):36} {what if i == 0 else ''}".rstrip())
-    return "\n".join(out) + "\n"
 
 
 def readable(path, kind="set"):
