@@ -41,6 +41,13 @@ class Calls(unittest.TestCase):
             binding.one_gate(START, b"GT")
         self.assertEqual(caught.exception.reply.number, 11)
 
+    def test_sequences(self):
+        self.assertEqual((binding.closing([10, 16, 22]), binding.spell(3), binding.spell(2)), (3, "HSSH", ""))
+        with self.assertRaises(binding.Refused):
+            binding.closing([24])
+        with self.assertRaises(binding.Refused):
+            binding.spell(24)
+
     def test_threads(self):
         threading.stack_size(2 << 20)
         found = []

@@ -29,7 +29,7 @@ def sentences():
     for numbers, wrong, look in re.findall(r"^\| ([0-9][0-9, to]*) \| ([^|]*) \| ([^|]*)\|$", text, re.M):
         named = [int(number) for number in re.findall("[0-9]+", numbers)]
         for number in range(named[0], named[-1] + 1) if " to " in numbers else named:
-            found[number] = wrong.strip(), look.strip()
+            found.setdefault(number, (wrong.strip(), look.strip()))
     return found
 
 

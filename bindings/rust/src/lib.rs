@@ -1,10 +1,12 @@
-//! The checker's C library from Rust: [`check`] and [`one_gate`] on byte slices. Calls are reentrant; one needs about 1 MiB of stack,
+//! The checker's C library from Rust: [`check`] and [`one_gate`] on byte slices, [`closing`] and [`spell`] on numbers of Clifford elements. Calls are reentrant; one needs about 1 MiB of stack,
 //! and a thread of Rust's standard library has 2 MiB by default.
 
 /// Size of a reply.
 pub const REPLY_SIZE: usize = 64;
 /// Size of the longest set file.
 pub const OUTPUT_SIZE: usize = 49_248;
+/// Length of the longest word of an element.
+pub const SPELL_SIZE: usize = 6;
 
 extern "C" {
     fn zhargutai_check(
@@ -15,6 +17,8 @@ extern "C" {
         set: *const u8, set_len: usize, circuit: *const u8, circuit_len: usize, output: *mut u8, output_len: usize,
         reply: *mut u8, reply_len: usize,
     ) -> u32;
+    fn zhargutai_closing(sequence: *const u8, sequence_len: usize, reply: *mut u8, reply_len: usize) -> u32;
+    fn zhargutai_spell(element: u32, output: *mut u8, output_len: usize, reply: *mut u8, reply_len: usize) -> u32;
 }
 
 /// Why a job was refused: docs/USE.md has the numbers.
@@ -75,4 +79,24 @@ pub fn one_gate(set: &[u8], gate: &[u8]) -> Result<Vec<u8>, Refusal> {
     }
     output.truncate(number_at(&reply, 8) as usize);
     Ok(output)
+}
+
+/// The Clifford element, 0 to 23, that brings a sequence of them, the first played first, to the identity.
+pub fn closing(sequence: &[u8]) -> Result<u8, Refusal> {
+    let mut reply = [0; REPLY_SIZE];
+    unsafe { zhargutai_closing(sequence.as_ptr(), sequence.len(), reply.as_mut_ptr(), REPLY_SIZE) };
+    if reply[0] == 0 {
+        return Err(refusal(&reply));
+    }
+    Ok(number_at(&reply, 8) as u8)
+}
+
+/// A Clifford element as gates of H and S, such as "HSSH", the first played first.
+pub fn spell(element: u32) -> Result<String, Refusal> {
+    let (mut reply, mut output) = ([0; REPLY_SIZE], [0; SPELL_SIZE]);
+    unsafe { zhargutai_spell(element, output.as_mut_ptr(), SPELL_SIZE, reply.as_mut_ptr(), REPLY_SIZE) };
+    if reply[0] == 0 {
+        return Err(refusal(&reply));
+    }
+    Ok(output[..number_at(&reply, 8) as usize].iter().map(|code| if *code == 4 { 'H' } else { 'S' }).collect())
 }

@@ -1,5 +1,5 @@
 //! The Rust binding: verdicts, refusals and gates, on the job of crates/zhargutai.
-use zhargutai::{check, one_gate, Refusal, Verdict};
+use zhargutai::{check, closing, one_gate, spell, Refusal, Verdict};
 
 const JOB: &[u8] = include_bytes!("../../../crates/zhargutai/stdin");
 
@@ -31,6 +31,12 @@ fn gate_by_gate_is_the_circuit() {
     let (start, circuit, end) = parts();
     let carried = circuit.chunks(6).fold(start.to_vec(), |set, gate| one_gate(&set, gate).unwrap());
     assert_eq!(check(&carried, &[], end, 4), Ok(Verdict::Holds(4)));
+}
+
+#[test]
+fn sequences() {
+    assert_eq!((closing(&[10, 16, 22]), spell(3), spell(2)), (Ok(3), Ok("HSSH".into()), Ok("".into())));
+    assert_eq!((closing(&[24]), spell(24)), (Err(Refusal { number: 22, source: 2, place: 0 }), Err(Refusal { number: 22, source: 2, place: 0 })));
 }
 
 #[test]
