@@ -21,15 +21,18 @@ SPLIT = {81: "an inner transition: its state is not on levels 1 to n", 82: "an i
 
 def sentences():
     """By number, what docs/USE.md says of a refusal: what is wrong, and what to look at."""
-    found = {}
+    found, before = {}, ""
     try:
         text = (ROOT / PAGE).read_text(encoding="utf-8")
     except OSError:
         text = ""
     for numbers, wrong, look in re.findall(r"^\| ([0-9][0-9, to]*) \| ([^|]*) \| ([^|]*)\|$", text, re.M):
+        # a row may lean on the one above it
+        wrong = re.sub("^its ", "an inner transition: its ", wrong.strip())
+        before = look = before if look.strip() == "the same" else look.strip()
         named = [int(number) for number in re.findall("[0-9]+", numbers)]
         for number in range(named[0], named[-1] + 1) if " to " in numbers else named:
-            found.setdefault(number, (wrong.strip(), look.strip()))
+            found.setdefault(number, (wrong, look))
     return found
 
 
