@@ -140,8 +140,9 @@ def figures(tally):
     numbers = {name: set(map(int, re.findall(r"^\| ([0-9]+) (?:\| [^|\n]*){1,2}\|$", (ROOT / name).read_text(), re.M))) for name in ("docs/RULES.md", "docs/USE.md")}
     rules, use = numbers["docs/RULES.md"], numbers["docs/USE.md"]
     tally.holds(f"docs/USE.md has every refusal of docs/RULES.md: {sorted(rules ^ use)}", use in (rules, rules - {81, 82, 83, 84} | {8}))
-    for path in sorted((ROOT / "examples" / "jobs").iterdir()):
-        said.setdefault("examples/README.md", []).extend((f"](jobs/{path.name})", f"| `{re.search('^expect (.*)$', path.read_text(), re.M)[1]}` |"))
+    listed = dict(re.findall(r"^\| \[[^]]*\]\(jobs/([^)]*)\) \| [^|]* \| `([^`]*)` \|$", (ROOT / "examples" / "README.md").read_text(), re.M))
+    tally.same("examples/README.md has every job with its line", listed,
+               {path.name: re.search("^expect (.*)$", path.read_text(), re.M)[1] for path in (ROOT / "examples" / "jobs").iterdir()})
     for name, parts in said.items():
         for part in parts:
             tally.holds(f"{name} says {part!r}", part in (ROOT / name).read_text())
