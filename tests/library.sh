@@ -19,6 +19,7 @@ version=$(cat VERSION)
 grep -qx "#define ZHARGUTAI_VERSION \"$version\"" "$root/include/zhargutai.h"
 grep -qx "Version: $version" "$root/lib/pkgconfig/zhargutai.pc"
 grep -q "zhargutai $version" "$root/share/man/man3/zhargutai.3"
+grep -qx "version = \"$version\"" bindings/rust/Cargo.toml
 if nm -D --defined-only "$root/lib/libzhargutai.so" | grep -v ' zhargutai_'; then
   echo "the shared library shows more than its functions"
   exit 1

@@ -2,7 +2,7 @@
 5,000 random sets, damaged ones, the jobs of examples."""
 import random
 
-from common import ROOT, Tally, random_files
+from common import ROOT, Tally, random_files, reference_sets
 import families
 from zhargutai import circuits, jobs, showing, text
 
@@ -22,6 +22,8 @@ for path in files:
     back(b, "set")
     back(b, "circuit")
 tally.holds("files of crates", len(files) > 50)
+tally.same("basis 2 is B2", text.pack(b"basis 2\n", "B2")[1], reference_sets.file_of(reference_sets.B2))
+tally.same("ket 0 is Z1", text.pack(b"ket 0\n", "Z1")[1], reference_sets.file_of(reference_sets.Z1))
 kept = []
 for i, b in enumerate(random_files(5000, 22)):
     back(b, "set")
