@@ -121,7 +121,7 @@ def answering(found, number, place=0):
     return mine[:1] if number != 5 else mine
 
 
-def told(f, kind=None):
+def told(f):
     """One fault in a line, and its bytes in a second one."""
     shown = " ".join(f"{x:02x}" for x in f.bytes)
     return f"{f.number}: record {f.record} at byte {f.offset}: {f.what}\n    {shown}"
