@@ -15,13 +15,13 @@ use Rattle.setfile.specs.declared.Bounds as code
 use Rattle.setfile.specs.Answer.{boundsOf}
 use Rattle.building.specs.declared.Room.{Room}
 use Rattle.applying.specs.Result.{boundsFrom}
-use Rattle.applying.specs.Standing.{Lent}
+use Rattle.buffers.specs.Sizes.{TableSized}
 use Rattle.carrying.specs.Tables.{Table, setOn, HoldingOn, LentOn}
 use Rattle.carrying.specs.Carried.{gatesFrom}
 use Rattle.preparing.specs.declared.Files.{Files}
 use Rattle.preparing.specs.Prepared.{filesJudged}
 use Rattle.preparing.proofs.Readied.{Readied, files-whole}
-use Rattle.deciding.specs.Decided.{decided, checkedBy, Deciding}
+use Rattle.deciding.specs.Decided.{decided, checkedBy, Roomed, Deciding}
 use Rattle.deciding.proofs.Phases.{may-decide, files-are, files-refused, files-good}
 use Rattle.checking.specs.Asked.{RoomyOn, Checking}
 
@@ -29,14 +29,14 @@ pub roomy-by : (T : Table) (r : code.Bounds) (room : Room) → boundsOf r ≡ bo
     → Roomy (T .rows) (T .masks) (T .coefs) (T .counts) (T .first) nMost (r .states) (r .inner) (r .leaves)
 roomy-by T r room e h = subst (λ (b : Bounds). Roomy (T .rows) (T .masks) (T .coefs) (T .counts) (T .first) nMost (b .states) (b .inner) (b .leaves)) (sym e) h
 
--- a table's slices came back as long as they were
-pub lent-kept : (T U : Table) {n : ℕ} {room : Room} → length (U .rows) ≡ length (T .rows) → length (U .masks) ≡ length (T .masks) → length (U .coefs) ≡ length (T .coefs)
-    → length (U .counts) ≡ length (T .counts) → length (U .first) ≡ length (T .first) → LentOn T n room → LentOn U n room
-lent-kept T U a b c d e l = record {
-  wide = record { wide = omega (arith, l .wide .wide); long = omega (arith, l .wide .long); deep = omega (arith, l .wide .deep) };
-  levels = omega (arith, l .levels);
-  begins = omega (arith, l .begins);
-  few = l .few;
+-- a table of just the named sizes has room for every set that the room admits
+pub own-roomy : {T : Table} {room : Room} → TableSized (T .rows) (T .masks) (T .coefs) (T .counts) (T .first) → Roomed room → RoomyOn T room
+own-roomy s r = record {
+  table = record { wide = omega (arith, s .rowsLong, r .records); long = omega (arith, s .masksLong, r .records) };
+  amplitudes = omega (arith, s .coefsLong, r .leaves);
+  levels = omega (arith, s .countsLong);
+  begins = omega (arith, s .firstLong, r .states);
+  few = omega (arith, r .records);
 }
 
 module _ (r₁ r₂ : code.Bounds) (room endroom : Room) (e₁ : boundsOf r₁ ≡ boundsFrom room) (e₂ : boundsOf r₂ ≡ boundsFrom endroom) (s c e : List ℕ) (f : Files)
@@ -48,10 +48,8 @@ module _ (r₁ r₂ : code.Bounds) (room endroom : Room) (e₁ : boundsOf r₁ �
   end-held : HoldingOn E (h .files .end) (boundsFrom endroom)
   end-held = subst (λ (b : Bounds). HoldingOn E (h .files .end) b) e₂ (kept .1)
 
-  pub to-decide : {A₀ B : Table} {cur next link heads : List ℕ} {E₀ : Table} {met stack kept hints : List ℕ} → Checking A₀ B cur next link heads E₀ met stack kept hints room endroom → LentOn A nMost room
-      → Deciding c (f .count) (f .form) (f .endform) A B cur next link heads E met stack kept hints room
-  to-decide k one =
-      may-decide (files-whole (boundsOf r₁) (boundsOf r₂) s c e (h .files) (h .is)) start-held end-held (h .form) (h .count) (h .endform) (k .lists) one (k .two) (k .narrow) (k .small) (k .rows)
+  pub to-decide : {met stack kept hints : List ℕ} → Checking met stack kept hints room endroom → LentOn A nMost room → Deciding c f A E met stack kept hints room
+  to-decide k one = may-decide (files-whole (boundsOf r₁) (boundsOf r₂) s c e (h .files) (h .is)) start-held end-held (h .form) (h .count) (h .endform) one (k .start) (k .narrow) (k .rows)
 
   pub is-checked : (most : ℕ) → decided (boundsFrom room) (ready (setOn (f .form) A) (gatesFrom (f .form .n) c 0 (f .count)) (setOn (f .endform) E)) most
       ≡ checkedBy (boundsFrom room) (boundsFrom endroom) s c e most

@@ -15,56 +15,53 @@ use Rattle.jobs.specs.Reply as reply
 use Rattle.jobs.specs.Reply.{replyOf}
 use Rattle.setfile.specs.declared.Form.{Form}
 use Rattle.standing.specs.Standing.{formOf, Stands}
-use Rattle.building.specs.Going.{Lists}
 use Rattle.building.specs.declared.Room.{Room}
 use Rattle.applying.specs.Result.{boundsFrom}
 use Rattle.applying.specs.Standing.{Lent}
 use Rattle.carrying.specs.Tables.{Table, setOn, StandsOn, HoldingOn, LentOn}
 use Rattle.carrying.specs.Carried.{Readable, gatesFrom}
 use Rattle.carrying.proofs.Circuits.{Sound, circuit-sound}
+use Rattle.preparing.specs.declared.Files.{Files}
 use Rattle.preparing.specs.Prepared.{filesJudged}
 use Rattle.preparing.proofs.Readied.{Whole}
-use Rattle.deciding.specs.Decided.{gatesJudged, decided, checkedBy, LastRows, Deciding}
+use Rattle.deciding.specs.Decided.{gatesJudged, decided, checkedBy, LastRows, Roomed, Deciding}
 
-module _ {c : List ℕ} {J : Ready} {room endroom : Room} {A E : Table} {form endform : Form} {count : ℕ} (w : Whole c J) (hA : HoldingOn A (J .start) (boundsFrom room))
-    (hE : HoldingOn E (J .end) (boundsFrom endroom)) (isForm : form ≡ formOf (J .start)) (isCount : count ≡ length (J .gates)) (isEnd : endform ≡ formOf (J .end)) where
+module _ {c : List ℕ} {J : Ready} {room endroom : Room} {A E : Table} {files : Files} (w : Whole c J) (hA : HoldingOn A (J .start) (boundsFrom room))
+    (hE : HoldingOn E (J .end) (boundsFrom endroom)) (isForm : files .form ≡ formOf (J .start)) (isCount : files .count ≡ length (J .gates)) (isEnd : files .endform ≡ formOf (J .end)) where
   sound : Sound (J .start .n) c (J .gates)
   sound = circuit-sound (J .start .n) c (J .gates) (w .circuit)
 
-  n-is : form .n ≡ J .start .n
+  n-is : files .form .n ≡ J .start .n
   n-is = ap (λ (f : Form). f .n) isForm
 
-  gates-are : gatesFrom (form .n) c 0 count ≡ J .gates
+  gates-are : gatesFrom (files .form .n) c 0 (files .count) ≡ J .gates
   gates-are = ap₂ (λ (n m : ℕ). gatesFrom n c 0 m) n-is isCount ∙ sound .are
 
-  lent-on : (T : Table) → LentOn T nMost room → LentOn T (form .n) room
+  lent-on : (T : Table) → LentOn T nMost room → LentOn T (files .form .n) room
   lent-on T l =
       let few : J .start .n ≤ nMost = subst (λ (Q : QSet). Q .n ≤ nMost) (hA .is) (hA .stands .formed .nFew) in
       record { wide = l .wide; levels = omega (arith, l .levels, n-is); begins = l .begins; few = l .few }
 
-  pub may-decide : {B : Table} {cur next link heads met stack kept hints : List ℕ} → Lists cur next link heads (room .states) 0 → LentOn A nMost room → LentOn B nMost room
-      → endroom .states ≤ 128 → room .states ≤ 1024 → LastRows met stack kept hints
-      → Deciding c count form endform A B cur next link heads E met stack kept hints room
-  may-decide {B} lists one two narrow small rows = record {
+  pub may-decide : {met stack kept hints : List ℕ} → LentOn A nMost room → Roomed room → endroom .states ≤ 128 → LastRows met stack kept hints
+      → Deciding c files A E met stack kept hints room
+  may-decide one roomed narrow rows = record {
     readable = rw (n-is, isCount) (sound .readable);
     fit = rw (gates-are, n-is) (circuit-fits (J .start .n) c (J .gates) (w .circuit));
     start = rw isForm (hA .stands);
-    lists = lists;
     one = lent-on A one;
-    two = lent-on B two;
+    roomed = roomed;
     bounds = boundsFrom endroom;
     end = rw isEnd (hE .stands);
     qubits = ap (λ (f : Form). f .n) isEnd ∙ w .qubits ∙ sym n-is;
     narrow = narrow;
-    small = small;
     rows = rows;
   }
 
-  pub files-are : ready (setOn form A) (gatesFrom (form .n) c 0 count) (setOn endform E) ≡ J
+  pub files-are : ready (setOn (files .form) A) (gatesFrom (files .form .n) c 0 (files .count)) (setOn (files .endform) E) ≡ J
   files-are =
-      ap (λ (f : Form). ready (setOn f A) (gatesFrom (form .n) c 0 count) (setOn endform E)) isForm
-      ∙ ap (λ (Q : QSet). ready Q (gatesFrom (form .n) c 0 count) (setOn endform E)) (hA .is)
-      ∙ ap (λ (gs : List Gate). ready (J .start) gs (setOn endform E)) gates-are
+      ap (λ (f : Form). ready (setOn f A) (gatesFrom (files .form .n) c 0 (files .count)) (setOn (files .endform) E)) isForm
+      ∙ ap (λ (Q : QSet). ready Q (gatesFrom (files .form .n) c 0 (files .count)) (setOn (files .endform) E)) (hA .is)
+      ∙ ap (λ (gs : List Gate). ready (J .start) gs (setOn (files .endform) E)) gates-are
       ∙ ap (λ (f : Form). ready (J .start) (J .gates) (setOn f E)) isEnd
       ∙ ap (λ (Q : QSet). ready (J .start) (J .gates) Q) (hE .is)
 

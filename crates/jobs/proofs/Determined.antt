@@ -4,7 +4,7 @@ use mathlib.Core.List.{List, [], _∷_}
 use Prim.Native.Nat.{ℕ}
 use Rattle.jobs.specs.Reply.{Reply}
 use Rattle.jobs.specs.Buffers.{Buffer, unsigned}
-use Rattle.jobs.specs.OneGate.{oneGateReply, oneGateOutput, oneGateWork}
+use Rattle.jobs.specs.OneGate.{oneGateReply, oneGateOutput}
 use Rattle.jobs.specs.Check.{checkReply, checkWork}
 use Rattle.jobs.specs.Entry.{checkEntry, checkEntryNumber, oneGateEntry, oneGateEntryNumber, oneGateEntryOutput}
 use Rattle.jobs.specs.Program.{printed}
@@ -29,8 +29,8 @@ determined {R} {want} {o} {o′} h k = λ i. record { returned = (h .value ∙ s
 abbrev pub checkLeft : List ℕ → List ℕ → List ℕ → List ℕ → ℕ → List Buffer → Left Reply
 checkLeft sizes s c e b work = left (checkReply sizes s c e b work) (checkWork sizes work)
 
-abbrev pub oneGateLeft : List ℕ → List ℕ → List ℕ → List ℕ → List Buffer → Left Reply
-oneGateLeft sizes s c output work = left (oneGateReply sizes s c output work) (unsigned (oneGateOutput sizes s c output work) ∷ oneGateWork sizes output work)
+abbrev pub oneGateLeft : List ℕ → List ℕ → List ℕ → Left Reply
+oneGateLeft s c output = left (oneGateReply s c output) (unsigned (oneGateOutput s c output) ∷ [])
 
 abbrev pub checkEntryLeft : List ℕ → List ℕ → List ℕ → ℕ → List ℕ → Left ℕ
 checkEntryLeft s c e b lent = left (checkEntryNumber s c e b lent) (unsigned (checkEntry s c e b lent) ∷ [])
@@ -45,9 +45,8 @@ pub check-determined : (sizes s c e : List ℕ) (b : ℕ) (work : List Buffer) (
     → Allows (checkLeft sizes s c e b work) o → Allows (checkLeft sizes s c e b work) o′ → o ≡ o′
 check-determined sizes s c e b work o o′ = determined
 
-pub one-gate-determined : (sizes s c output : List ℕ) (work : List Buffer) (o o′ : Left Reply)
-    → Allows (oneGateLeft sizes s c output work) o → Allows (oneGateLeft sizes s c output work) o′ → o ≡ o′
-one-gate-determined sizes s c output work o o′ = determined
+pub one-gate-determined : (s c output : List ℕ) (o o′ : Left Reply) → Allows (oneGateLeft s c output) o → Allows (oneGateLeft s c output) o′ → o ≡ o′
+one-gate-determined s c output o o′ = determined
 
 pub check-entry-determined : (s c e : List ℕ) (b : ℕ) (lent : List ℕ) (o o′ : Left ℕ) → Allows (checkEntryLeft s c e b lent) o → Allows (checkEntryLeft s c e b lent) o′ → o ≡ o′
 check-entry-determined s c e b lent o o′ = determined

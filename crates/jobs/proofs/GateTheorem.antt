@@ -4,11 +4,9 @@ use mathlib.Core.Path.{_≡_, refl, _∙_}
 use mathlib.Core.List.{List}
 use Prim.Native.Nat.{ℕ, _≤_}
 use native.Mathlib.Omega.{arith}
-use lib.Dec.{leb}
 use lib.ListN.{length, take, drop, length-append, length-drop}
 use lib.Seq.{take-append-seam}
 use borrow.Author.Tests.{leb-true}
-use Rattle.amplitude.proofs.Equal.{both}
 use Rattle.automata.specs.Sets.{QSet}
 use Rattle.stored.specs.Refusal.{good, refusal, noSource}
 use Rattle.stored.specs.Rules.{setBounds}
@@ -21,7 +19,6 @@ use Rattle.gates.proofs.Fits.{one-fits}
 use Rattle.gates.proofs.Circuits.{Carries, carries, went}
 use Rattle.gates.proofs.WellBuilt.{WellStored, well-stored}
 use Rattle.jobs.specs.Reply.{made}
-use Rattle.jobs.specs.Buffers.{Buffer, longEnough}
 use Rattle.jobs.specs.OneGate.{outputSize, newSet, oneGateLong, oneGateJudged, oneGateReply, oneGateOutput}
 
 -- what the job made: Q was read, gs are its gates, N is the new set
@@ -40,16 +37,16 @@ new-set s c N b h =
     (x .0, y .0, record { set = x .1; gates = y .1; carried = k; stored = well-stored N (k .formed) })
 
 -- the reply is the new set's length, and the output begins with it and keeps its own length
-pub record Written (sizes s c output : List ℕ) (work : List Buffer) (N : QSet) : Type 0 where
-  pub reply : oneGateReply sizes s c output work ≡ made (length (fileOf N))
-  pub front : take (length (fileOf N)) (oneGateOutput sizes s c output work) ≡ fileOf N
-  pub kept : length (oneGateOutput sizes s c output work) ≡ length output
+pub record Written (s c output : List ℕ) (N : QSet) : Type 0 where
+  pub reply : oneGateReply s c output ≡ made (length (fileOf N))
+  pub front : take (length (fileOf N)) (oneGateOutput s c output) ≡ fileOf N
+  pub kept : length (oneGateOutput s c output) ≡ length output
 
-pub written : (sizes s c output : List ℕ) (work : List Buffer) (N : QSet) → Bytes s → oneGateJudged sizes s c output work ≡ good N → Written sizes s c output work N
+pub written : (s c output : List ℕ) (N : QSet) → Bytes s → oneGateJudged s c output ≡ good N → Written s c output N
 unfolding oneGateReply oneGateOutput oneGateJudged oneGateLong
-written sizes s c output work N b h =
-    let n = need-good (oneGateLong sizes output work) (refusal 17 noSource 0) (newSet s c) N h in
-    let long : outputSize ≤ length output = leb-true outputSize (length output) (both (leb outputSize (length output)) (longEnough sizes work) (n .0) .0) in
+written s c output N b h =
+    let n = need-good (oneGateLong output) (refusal 17 noSource 0) (newSet s c) N h in
+    let long : outputSize ≤ length output = leb-true outputSize (length output) (n .0) in
     let m = new-set s c N b (n .1) in
     let short : length (fileOf N) ≤ 49248 = m .2 .stored .short in
     record {

@@ -1,7 +1,7 @@
 -- Document 01, "The release tool is written in C": "Its entry lends the work buffers itself and writes the reply into a lent byte buffer, size
 -- (a fixed number, at most 256 bytes) and layout in docs/; a shorter one gives 17 and stays."
 use mathlib.Core.Bool.{cond}
-use mathlib.Core.List.{List, [], _∷_, _++_}
+use mathlib.Core.List.{List, _∷_, _++_}
 use Prim.Native.Nat.{ℕ}
 use lib.ListN.{length, drop, replicate}
 use lib.Dec.{leb}
@@ -34,10 +34,10 @@ checkEntryNumber s c e b lent = replyNumber (checkAnswer s c e b) lent
 
 -- the one-gate entry: with a short reply buffer the output stays too
 unfoldable pub oneGateEntry : List ℕ → List ℕ → List ℕ → List ℕ → List ℕ
-oneGateEntry s c output lent = replyBuffer (oneGateReply [] s c output []) lent
+oneGateEntry s c output lent = replyBuffer (oneGateReply s c output) lent
 
 unfoldable pub oneGateEntryNumber : List ℕ → List ℕ → List ℕ → List ℕ → ℕ
-oneGateEntryNumber s c output lent = replyNumber (oneGateReply [] s c output []) lent
+oneGateEntryNumber s c output lent = replyNumber (oneGateReply s c output) lent
 
 unfoldable pub oneGateEntryOutput : List ℕ → List ℕ → List ℕ → List ℕ → List ℕ
-oneGateEntryOutput s c output lent = cond (leb replySize (length lent)) (oneGateOutput [] s c output []) output
+oneGateEntryOutput s c output lent = cond (leb replySize (length lent)) (oneGateOutput s c output) output

@@ -1,3 +1,1 @@
-pub mod Leaves
-pub mod Tested
-pub mod Exactly
+pub mod Judged
