@@ -1,120 +1,150 @@
 // Document 01, the job *Check*: "start, circuit, end, allowance B (32 bits, unsigned), work buffers whose sizes docs/ names". It tests the lent
-// buffers' sizes, lends just their named sizes to the work, and leaves these at zero (docs/BUFFERS.md).
-use endfronting::HINTS;
-use endfronting::MARKS;
-use fronting::lend;
-use onegate::lists_long;
-use onegate::table_long;
+// buffers' sizes, lends just their named sizes to the work, and leaves these at zero (docs/BUFFERS.md). Tables and keys are arrays of its own.
+use buffers::END_STATES;
+use buffers::HINTS;
+use buffers::INNER;
+use buffers::LEAVES;
+use buffers::MARKS;
+use buffers::STATES;
+use building::Room;
+use checking::check_files;
 use refusals::Refusal;
 use replies::Reply;
 use replies::refused;
+use terms::Terms;
+use wiping::wipe_marks;
 ghost use mathlib.Core.Path.{_≡_};
 ghost use mathlib.Core.Bool.{_&&_};
 ghost use lib.Dec.{leb};
-ghost use Rattle.jobs.specs.Check.{checkReply, checkWork};
+ghost use lib.ListN.{length, replicate};
+ghost use Rattle.jobs.specs.Buffers.{wipedAll};
+ghost use Rattle.jobs.specs.Check.{checkAnswer, checkReply, checkWork};
 ghost use Rattle.replies.specs.Replied.{replyFrom};
-ghost use Rattle.answering.specs.Marks.{marksSize, hintsSize};
-ghost use Rattle.checkjob.specs.Sizes.{checkSizes, checkLent};
+ghost use Rattle.buffers.specs.Sizes.{marksSize, hintsSize, MarksSized};
+ghost use Rattle.checkjob.specs.Sizes.{checkSizes, checkLent, Long};
 
-// The walk's rows have their named sizes or more.
+// Room for a set of so many states.
+fn room_for(states: u16) -> Room
+    ensures { λ r. ⌜ r ≡ record { inner = 2048; leaves = 1024; states = states } ⌝ }
+{
+    Room {
+        inner: INNER,
+        leaves: LEAVES,
+        states,
+    }
+}
+
+// The check in rows of just their named sizes, which it leaves at zero.
+fn work(
+    start: &[u8],
+    circuit: &[u8],
+    end: &[u8],
+    terms: Terms,
+    met: &mut [u32],
+    stack: &mut [u32],
+    kept: &mut [u32],
+    hints: &mut [u8],
+) -> Reply
+    requires { ⌜ MarksSized (now met) (now stack) (now kept) (now hints) ⌝ }
+    ensures { λ r. ⌜ r ≡ replyFrom (checkAnswer (now (start .entry)) (now (circuit .entry)) (now (end .entry)) (terms .most)) ⌝ }
+    ensures { λ _. ⌜ now (met .exit) ≡ replicate marksSize 0 ⌝ }
+    ensures { λ _. ⌜ now (stack .exit) ≡ replicate marksSize 0 ⌝ }
+    ensures { λ _. ⌜ now (kept .exit) ≡ replicate marksSize 0 ⌝ }
+    ensures { λ _. ⌜ now (hints .exit) ≡ replicate hintsSize 0 ⌝ }
+{
+    let reply = check_files(
+        start,
+        circuit,
+        end,
+        met,
+        stack,
+        kept,
+        hints,
+        terms,
+        room_for(STATES),
+        room_for(END_STATES),
+    );
+    wipe_marks(met, stack, kept, hints);
+    reply
+}
+
+// The check where the buffers are long enough: just their named sizes are lent to the work.
+fn lend(
+    start: &[u8],
+    circuit: &[u8],
+    end: &[u8],
+    terms: Terms,
+    met: &mut [u32],
+    stack: &mut [u32],
+    kept: &mut [u32],
+    hints: &mut [u8],
+) -> Reply
+    requires { ⌜ Long (now met) (now stack) (now kept) (now hints) ⌝ }
+    ensures { λ r. ⌜ r ≡ replyFrom (checkAnswer (now (start .entry)) (now (circuit .entry)) (now (end .entry)) (terms .most)) ⌝ }
+    ensures { λ _. ⌜ checkLent (now (met .exit)) (now (stack .exit)) (now (kept .exit)) (now (hints .exit))
+        ≡ wipedAll checkSizes (checkLent (now (met .entry)) (now (stack .entry)) (now (kept .entry)) (now (hints .entry))) ⌝ }
+{
+    work(
+        start,
+        circuit,
+        end,
+        terms,
+        &mut met[..MARKS],
+        &mut stack[..MARKS],
+        &mut kept[..MARKS],
+        &mut hints[..HINTS],
+    )
+}
+
+// Each row has its named size or more.
 fn marks_long(met: usize, stack: usize, kept: usize, hints: usize) -> bool
     ensures { λ r. ⌜ r ≡ (leb marksSize met && (leb marksSize stack && (leb marksSize kept && leb hintsSize hints))) ⌝ }
 {
     (MARKS <= met) & ((MARKS <= stack) & ((MARKS <= kept) & (HINTS <= hints)))
 }
 
-// The job, with the allowance `most`: two tables for the image of five slices each, the lists of keys, the end set's table, and the walk's rows.
+// The job, for any three files, any terms and any lent buffers.
 pub fn check(
     start: &[u8],
     circuit: &[u8],
     end: &[u8],
-    most: u32,
-    arows: &mut [u16],
-    amasks: &mut [u32],
-    acoefs: &mut [i32],
-    acounts: &mut [u16],
-    afirst: &mut [u16],
-    brows: &mut [u16],
-    bmasks: &mut [u32],
-    bcoefs: &mut [i32],
-    bcounts: &mut [u16],
-    bfirst: &mut [u16],
-    cur: &mut [u64],
-    next: &mut [u64],
-    link: &mut [u16],
-    heads: &mut [u16],
-    endrows: &mut [u16],
-    endmasks: &mut [u32],
-    endcoefs: &mut [i32],
-    endcounts: &mut [u16],
-    endfirst: &mut [u16],
+    terms: Terms,
     met: &mut [u32],
     stack: &mut [u32],
     kept: &mut [u32],
     hints: &mut [u8],
 ) -> Reply
-    ensures { λ r. ⌜ r ≡ replyFrom (checkReply checkSizes (now (start .entry)) (now (circuit .entry)) (now (end .entry)) most
-        (checkLent (now (arows .entry)) (now (amasks .entry)) (now (acoefs .entry)) (now (acounts .entry)) (now (afirst .entry)) (now (brows .entry)) (now (bmasks .entry)) (now (bcoefs .entry)) (now (bcounts .entry)) (now (bfirst .entry)) (now (cur .entry)) (now (next .entry)) (now (link .entry)) (now (heads .entry)) (now (endrows .entry)) (now (endmasks .entry)) (now (endcoefs .entry)) (now (endcounts .entry)) (now (endfirst .entry)) (now (met .entry)) (now (stack .entry)) (now (kept .entry)) (now (hints .entry)))) ⌝ }
-    ensures { λ _. ⌜ checkLent (now (arows .exit)) (now (amasks .exit)) (now (acoefs .exit)) (now (acounts .exit)) (now (afirst .exit)) (now (brows .exit)) (now (bmasks .exit)) (now (bcoefs .exit)) (now (bcounts .exit)) (now (bfirst .exit)) (now (cur .exit)) (now (next .exit)) (now (link .exit)) (now (heads .exit)) (now (endrows .exit)) (now (endmasks .exit)) (now (endcoefs .exit)) (now (endcounts .exit)) (now (endfirst .exit)) (now (met .exit)) (now (stack .exit)) (now (kept .exit)) (now (hints .exit))
-        ≡ checkWork checkSizes (checkLent (now (arows .entry)) (now (amasks .entry)) (now (acoefs .entry)) (now (acounts .entry)) (now (afirst .entry)) (now (brows .entry)) (now (bmasks .entry)) (now (bcoefs .entry)) (now (bcounts .entry)) (now (bfirst .entry)) (now (cur .entry)) (now (next .entry)) (now (link .entry)) (now (heads .entry)) (now (endrows .entry)) (now (endmasks .entry)) (now (endcoefs .entry)) (now (endcounts .entry)) (now (endfirst .entry)) (now (met .entry)) (now (stack .entry)) (now (kept .entry)) (now (hints .entry))) ⌝ }
+    ensures { λ r. ⌜ r ≡ replyFrom (checkReply checkSizes (now (start .entry)) (now (circuit .entry)) (now (end .entry)) (terms .most)
+        (checkLent (now (met .entry)) (now (stack .entry)) (now (kept .entry)) (now (hints .entry)))) ⌝ }
+    ensures { λ _. ⌜ checkLent (now (met .exit)) (now (stack .exit)) (now (kept .exit)) (now (hints .exit))
+        ≡ checkWork checkSizes (checkLent (now (met .entry)) (now (stack .entry)) (now (kept .entry)) (now (hints .entry))) ⌝ }
 {
-    let a = table_long(
-        arows.len(),
-        amasks.len(),
-        acoefs.len(),
-        acounts.len(),
-        afirst.len(),
-    );
-    let b = table_long(
-        brows.len(),
-        bmasks.len(),
-        bcoefs.len(),
-        bcounts.len(),
-        bfirst.len(),
-    );
-    let keys = lists_long(cur.len(), next.len(), link.len(), heads.len());
-    let ends = table_long(
-        endrows.len(),
-        endmasks.len(),
-        endcoefs.len(),
-        endcounts.len(),
-        endfirst.len(),
-    );
-    let marks = marks_long(met.len(), stack.len(), kept.len(), hints.len());
-    if !(a & (b & (keys & (ends & marks)))) {
+    if !marks_long(met.len(), stack.len(), kept.len(), hints.len()) {
         return refused(Refusal {
             number: 17,
             source: 0,
             place: 0,
         });
     }
-    lend(
+    lend(start, circuit, end, terms, met, stack, kept, hints)
+}
+
+// The job with buffers of its own, which are never short: what the C entry and the program call. About 220 KB of the stack are these.
+pub fn check_own(start: &[u8], circuit: &[u8], end: &[u8], terms: Terms) -> Reply
+    ensures { λ r. ⌜ r ≡ replyFrom (checkAnswer (now (start .entry)) (now (circuit .entry)) (now (end .entry)) (terms .most)) ⌝ }
+{
+    let mut met = [0u32; MARKS];
+    let mut stack = [0u32; MARKS];
+    let mut kept = [0u32; MARKS];
+    let mut hints = [0u8; HINTS];
+    check(
         start,
         circuit,
         end,
-        most,
-        arows,
-        amasks,
-        acoefs,
-        acounts,
-        afirst,
-        brows,
-        bmasks,
-        bcoefs,
-        bcounts,
-        bfirst,
-        cur,
-        next,
-        link,
-        heads,
-        endrows,
-        endmasks,
-        endcoefs,
-        endcounts,
-        endfirst,
-        met,
-        stack,
-        kept,
-        hints,
+        terms,
+        &mut met,
+        &mut stack,
+        &mut kept,
+        &mut hints,
     )
 }

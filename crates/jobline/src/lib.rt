@@ -1,6 +1,6 @@
 // The program's line for an input of any length: document 01, "It prints one line". `job_line`, the only public function, asks nothing of its
-// caller; work buffers are its own (crate lending).
-use lending::check_own;
+// caller; the check that it calls has buffers of its own.
+use checkjob::check_own;
 use lines::input::FIXED_SIZE;
 use lines::input::Parts;
 use lines::input::divide;
@@ -9,6 +9,7 @@ use lines::line::put_line;
 use refusals::Refusal;
 use replies::Reply;
 use replies::refused;
+use terms::Terms;
 ghost use mathlib.Core.Path.{_≡_};
 ghost use mathlib.Core.Bool.{true};
 ghost use Prim.Native.Nat.{_+_, _≤_};
@@ -53,7 +54,9 @@ fn reply_to(input: &[u8], parts: Parts) -> Reply
         &input[FIXED_SIZE..first],
         &input[first..second],
         &input[second..],
-        parts.allowance,
+        Terms {
+            most: parts.allowance,
+        },
     )
 }
 

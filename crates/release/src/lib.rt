@@ -2,10 +2,11 @@
 // work buffers itself and writes the reply into a lent byte buffer". The header is include/zhargutai.h, the reply's layout docs/REPLY.md.
 pub mod sequences;
 
-use lending::check_own;
+use checkjob::check_own;
 use onegate::one_gate;
 use replies::REPLY_SIZE;
 use replies::put_reply;
+use terms::Terms;
 ghost use mathlib.Core.Path.{_≡_};
 ghost use Rattle.jobs.specs.Entry.{checkEntry, checkEntryNumber, oneGateEntry, oneGateEntryNumber, oneGateEntryOutput};
 
@@ -25,39 +26,7 @@ pub extern "C" fn zhargutai_one_gate(
     if reply.len() < REPLY_SIZE {
         return 17;
     }
-    let mut old = [0u16; 9216];
-    let mut oldmasks = [0u32; 3072];
-    let mut numbers = [0i32; 4096];
-    let mut oldcounts = [0u16; 21];
-    let mut first = [0u16; 1025];
-    let mut rows = [0u16; 9216];
-    let mut masks = [0u32; 3072];
-    let mut coefs = [0i32; 4096];
-    let mut counts = [0u16; 21];
-    let mut newfirst = [0u16; 1025];
-    let mut cur = [0u64; 1026];
-    let mut next = [0u64; 1026];
-    let mut link = [0u16; 1026];
-    let mut heads = [0u16; 1024];
-    let told = one_gate(
-        set,
-        circuit,
-        output,
-        &mut old,
-        &mut oldmasks,
-        &mut numbers,
-        &mut oldcounts,
-        &mut first,
-        &mut rows,
-        &mut masks,
-        &mut coefs,
-        &mut counts,
-        &mut newfirst,
-        &mut cur,
-        &mut next,
-        &mut link,
-        &mut heads,
-    );
+    let told = one_gate(set, circuit, output);
     put_reply(reply, told)
 }
 
@@ -77,6 +46,6 @@ pub extern "C" fn zhargutai_check(
     if reply.len() < REPLY_SIZE {
         return 17;
     }
-    let told = check_own(start, circuit, end, most);
+    let told = check_own(start, circuit, end, Terms { most });
     put_reply(reply, told)
 }
