@@ -82,6 +82,7 @@ def no_jobs():
         yield f"lengths whose 32-bit sum fits, {lengths}", input_of(*(bell if lengths[2] else (b"", b"", b"")), 4, lengths)
     yield "18 before a bad start set", input_of(b"", b"x", b"", 0) + b"\0"
     yield "one part of 65,537 bytes after two of 65,536", input_of(bytes(MOST), bytes(MOST), bytes(MOST + 1), 0)
+    yield "the longest job and one byte", input_of(bytes(MOST), bytes(MOST), bytes(MOST), 1) + b"\0"
     yield "a megabyte", b"JB" + bytes(1 << 20)
     yield "four megabytes of JB", b"JB" * (1 << 21)
 
