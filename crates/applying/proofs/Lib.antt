@@ -3,4 +3,3 @@ pub mod OldTable
 pub mod NewTable
 pub mod OneGate
 pub mod ReadGates
-pub mod Results

@@ -31,10 +31,10 @@ use Rattle.building.specs.declared.Room.{Room}
 use Rattle.building.specs.declared.Outcome.{Outcome}
 use Rattle.building.specs.Whole.{TooMany, Whole}
 use Rattle.standing.specs.Standing.{formOf, Holding}
-use Rattle.applying.specs.declared.GateResult.{GateResult}
-use Rattle.applying.specs.declared.GateResult.the-variants.{Made}
-use Rattle.applying.specs.Result.{madeOf, boundsFrom, resultOf, picked}
-use Rattle.applying.specs.Standing.{Lent, Indexable}
+use Rattle.settling.specs.declared.GateResult.{GateResult}
+use Rattle.settling.specs.declared.GateResult.the-variants.{Made}
+use Rattle.settling.specs.Result.{madeOf, boundsFrom, resultOf, picked}
+use Rattle.settling.specs.Standing.{Lent, Indexable}
 use Rattle.standing.proofs.StandingLaws.{holding}
 
 -- ---- the judgement, from three answers

@@ -30,9 +30,9 @@ use Rattle.building.specs.declared.Outcome.{Outcome}
 use Rattle.building.specs.Whole.{Whole}
 use Rattle.building.specs.Going.{Lists, Rest}
 use Rattle.standing.specs.Standing.{setIn, Stands, Holding}
-use Rattle.applying.specs.declared.GateResult.{GateResult}
-use Rattle.applying.specs.Result.{boundsFrom, madeOf, resultOf, picked}
-use Rattle.applying.specs.Standing.{Lent, Indexable}
+use Rattle.settling.specs.declared.GateResult.{GateResult}
+use Rattle.settling.specs.Result.{boundsFrom, madeOf, resultOf, picked}
+use Rattle.settling.specs.Standing.{Lent, Indexable}
 use Rattle.standing.proofs.StandingLaws.{set-n, set-k}
 use Rattle.applying.proofs.OldTable.{root-count, root-keys}
 use Rattle.applying.proofs.NewTable.{sizes-told, leaves-told, result-told, indexable, new-holds}

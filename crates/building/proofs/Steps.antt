@@ -20,8 +20,8 @@ use Rattle.growing.specs.Growing.{levelIn, Over, Grew}
 use Rattle.growing.specs.declared.Progress.{Progress}
 use Rattle.growing.specs.declared.Most.{Most}
 use borrow.Author.Tests.{eq-eqb}
-use Rattle.ending.specs.Ended.{Lent, Ended}
-use Rattle.ending.specs.declared.Ending.{Ending}
+use Rattle.endrow.specs.Ended.{Lent, Ended}
+use Rattle.endrow.specs.declared.Ending.{Ending}
 use Rattle.building.specs.Whole.{TooMany, Wide, Whole, onLevels}
 use Rattle.building.specs.declared.Room.{Room}
 use Rattle.building.specs.declared.Outcome.{Outcome}

@@ -1,8 +1,8 @@
 // Document 01, "What each gate builds": all levels of a gate's result, one after the other from the table of the old set into the rest of lent
 // slices.
 use circuits::Gate;
-use ending::Ending;
 use ending::end_level;
+use endrow::Ending;
 use growing::Most;
 use growing::Progress;
 use leveling::grow_level;

@@ -11,7 +11,7 @@ use Rattle.gates.specs.Gate.{H, Gate, plain}
 use Rattle.gates.specs.Circuit.{gtSize, gateAt, judgeCircuit, judgeOne}
 use Rattle.gates.proofs.Fits.{Fits, AllFit, circuit-fits, one-fits}
 use Rattle.circuits.proofs.Answers.{answer-tells}
-use Rattle.circuits.proofs.Gates.{Gates, circuit-gates, one-gate}
+use Rattle.circuitfile.proofs.Gates.{Gates, circuit-gates, one-gate}
 use Rattle.applying.proofs.ReadGates.{read-light}
 use Rattle.carrying.specs.Carried.{Readable, gatesFrom}
 use Rattle.carrying.proofs.Turns.{gates-next}

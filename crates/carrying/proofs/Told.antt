@@ -5,8 +5,8 @@ use Prim.Native.Nat.{ℕ}
 use Rattle.automata.specs.Sets.{QSet}
 use Rattle.stored.specs.Refusal.{Judged, refused, good, refusal}
 use Rattle.stored.specs.Rules.{Bounds}
-use Rattle.carrying.specs.declared.Carry.{Carry}
-use Rattle.carrying.specs.Tables.{Table, holder, setOn}
+use Rattle.settling.specs.declared.Carry.{Carry}
+use Rattle.standing.specs.Tables.{Table, holder, setOn}
 use Rattle.carrying.specs.Carried.{Carried}
 
 module _ {n : ℕ} {T U : Table} {c : Carry} {b : Bounds} {J : Judged QSet} (h : Carried n T U c b J) where

@@ -24,13 +24,16 @@ use Rattle.setfile.specs.declared.Form.{Form}
 use Rattle.building.specs.declared.Room.{Room}
 use Rattle.building.specs.Going.{Lists}
 use Rattle.standing.specs.Standing.{formOf}
-use Rattle.applying.specs.declared.GateResult.{GateResult}
-use Rattle.applying.specs.Result.{boundsFrom, resultOf}
+use Rattle.settling.specs.declared.GateResult.{GateResult}
+use Rattle.settling.specs.Result.{boundsFrom, resultOf, nextOf}
 use Rattle.standing.proofs.StandingLaws.{set-n}
 use Rattle.applying.proofs.OneGate.{lent-on}
-use Rattle.carrying.specs.declared.Carry.{Carry}
-use Rattle.carrying.specs.Tables.{Table, holder, other, setOn, StandsOn, StandsIn, HoldingOn, LentOn}
-use Rattle.carrying.specs.Carried.{GateThere, Readable, gatesFrom, nextOf, judgedIn, Carried}
+use Rattle.settling.specs.declared.Carry.{Carry}
+use Rattle.standing.specs.Tables.{Table, holder, other, setOn, StandsOn, StandsIn, HoldingOn}
+use Rattle.settling.specs.Standing.{LentOn}
+use Rattle.spots.specs.declared.Spot.{Spot}
+use Rattle.spots.specs.Spots.{nextSpot}
+use Rattle.carrying.specs.Carried.{GateThere, Readable, gatesFrom, judgedIn, Carried}
 
 -- ---- the records that are left
 pub here : {n : ℕ} {s : List ℕ} {at count : ℕ} → Readable n s at count → 0 < count → (at + gtSize ≤ length s) × GateThere n s at
@@ -152,6 +155,15 @@ pub record Going (n : ℕ) (s : List ℕ) (room : Room) (T U : Table) (cur next 
   pub lists : Lists cur next link heads (room .states) 0
   pub one : LentOn T n room
   pub two : LentOn U n room
+
+-- at the spot that a step leads to
+pub at-spot : {n : ℕ} {s : List ℕ} {room : Room} {T U : Table} {cur next link heads : List ℕ} {c : Carry} {J : Judged QSet} {z w : Spot} → z ≡ w
+    → Going n s room T U cur next link heads c (w .left) (w .at) (w .place) J → Going n s room T U cur next link heads c (z .left) (z .at) (z .place) J
+at-spot {n} {s} {room} {T} {U} {cur} {next} {link} {heads} {c} {J} e go =
+    subst (λ (v : Spot). Going n s room T U cur next link heads c (v .left) (v .at) (v .place) J) (sym e) go
+
+pub spot-less : (z : Spot) {w : Spot} → w ≡ nextSpot z → 0 < z .left → w .left < z .left
+spot-less z e more = subst (λ (v : Spot). v .left < z .left) (sym e) (omega arith)
 
 -- the loop's test
 pub goes-on : (left : ℕ) (ok : Bool) → not (eqb left 0) && ok ≡ true → (0 < left) × (ok ≡ true)

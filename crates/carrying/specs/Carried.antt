@@ -1,6 +1,6 @@
 -- Document 01, "a circuit is .. records .. GT": the gates of records from a place on, and the set so far, judged.
 use mathlib.Core.Path.{_≡_}
-use mathlib.Core.Bool.{true, false, cond, not}
+use mathlib.Core.Bool.{true, cond}
 use mathlib.Core.List.{List}
 use mathlib.Core.Option.{some}
 use Prim.Native.Nat.{ℕ, _+_, _*_, _<_, _≤_}
@@ -13,10 +13,8 @@ use Rattle.gates.specs.Gate.{Gate}
 use Rattle.gates.specs.Circuit.{gtSize, gateAt, somes}
 use Rattle.gates.proofs.Fits.{Fits}
 use Rattle.stepwise.proofs.StoredLaws.{Light}
-use Rattle.applying.specs.declared.GateResult.{GateResult}
-use Rattle.applying.specs.declared.GateResult.the-variants.{Made, Refused}
-use Rattle.carrying.specs.declared.Carry.{Carry}
-use Rattle.carrying.specs.Tables.{Table, holder, setOn, StandsIn}
+use Rattle.standing.specs.Tables.{Table, holder, setOn, StandsIn}
+use Rattle.settling.specs.declared.Carry.{Carry}
 
 -- a record that is a gate on n qubits
 pub record GateThere (n : ℕ) (s : List ℕ) (at : ℕ) : Type 0 where
@@ -32,11 +30,6 @@ pub record Readable (n : ℕ) (s : List ℕ) (at count : ℕ) : Type 0 where
 
 abbrev pub gatesFrom : ℕ → List ℕ → ℕ → ℕ → List Gate
 gatesFrom n s at count = somes (recordsFrom (gateAt n s) at gtSize count)
-
--- what a gate's answer makes of the set so far
-abbrev pub nextOf : Carry → GateResult → Carry
-nextOf c (Made f) = record { form = f; second = not (c .second); ok = true; refusal = c .refusal }
-nextOf c (Refused r) = record { form = c .form; second = c .second; ok = false; refusal = r }
 
 -- the set so far, as it is judged
 abbrev pub judgedIn : Carry → Table → Table → Judged QSet

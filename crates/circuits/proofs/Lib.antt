@@ -1,4 +1,1 @@
 pub mod Answers
-pub mod Scan
-pub mod Judging
-pub mod Gates

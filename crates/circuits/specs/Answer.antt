@@ -1,12 +1,8 @@
--- Document 01, "a gate is plain with its kind, or controlled with its control and kind": the definitions' kinds, gates and judged circuits as
--- the enums of the code.
-use mathlib.Core.List.{List}
+-- Document 01, "a gate is plain with its kind, or controlled with its control and kind": the definitions' kinds and gates as the enums of
+-- the code.
 use mathlib.Core.Option.{Option, none, some}
-use lib.ListN.{length}
-use Rattle.stored.specs.Refusal.{Judged, good, refused}
 use Rattle.gates.specs.Gate as def
 use Rattle.gates.specs.Gate.{phase, flip, H, plain, controlled}
-use Rattle.refusals.specs.Refused.{refusedBy}
 use Rattle.circuits.specs.declared.Kind.{Kind}
 use Rattle.circuits.specs.declared.Kind.the-variants as kind
 use Rattle.circuits.specs.declared.Gate.{Gate}
@@ -15,8 +11,6 @@ use Rattle.circuits.specs.declared.KindAnswer.{KindAnswer}
 use Rattle.circuits.specs.declared.KindAnswer.the-variants as ofKind
 use Rattle.circuits.specs.declared.GateAnswer.{GateAnswer}
 use Rattle.circuits.specs.declared.GateAnswer.the-variants as ofGate
-use Rattle.circuits.specs.declared.CircuitAnswer.{CircuitAnswer}
-use Rattle.circuits.specs.declared.CircuitAnswer.the-variants as ofCircuit
 
 -- "(phase, flip, H)"
 abbrev pub kindFrom : def.Kind → Kind
@@ -49,8 +43,3 @@ kindAnswer (some k) = ofKind.Is (kindFrom k)
 abbrev pub gateAnswer : Option def.Gate → GateAnswer
 gateAnswer none = ofGate.Wrong
 gateAnswer (some g) = ofGate.Is (gateFrom g)
-
--- 11 or 12 with source and place, or how many gates the circuit has
-abbrev pub circuitAnswer : Judged (List def.Gate) → CircuitAnswer
-circuitAnswer (refused r) = ofCircuit.Bad (refusedBy r)
-circuitAnswer (good gs) = ofCircuit.Good (length gs)

@@ -8,6 +8,7 @@ use building::too_many;
 use building::topped;
 use circuits::Gate;
 use growing::Most;
+use tables::ROW_WIDTH;
 ghost use lib.Dec.{eqb};
 ghost use lib.ListN.{take};
 ghost use Rattle.gates.specs.Numbering.{number};
@@ -17,7 +18,15 @@ ghost use Rattle.lookup.specs.Alts.{tableAutomaton};
 ghost use Rattle.building.specs.Whole.{Whole, Below};
 ghost use Rattle.building.specs.Going.{Lists, Going, Rest, Past};
 
-// The levels from this one on: its `count` states have the keys at the front of `cur`, and `left` levels of qubits are still to come.
+// Where building stands: the level, how many levels of qubits are still to come, how many states the level has, and the number of its first one.
+pub struct Here {
+    pub level: u8,
+    pub left: u8,
+    pub count: u16,
+    pub start: u16,
+}
+
+// The levels from this one on: its states have the keys at the front of `cur`.
 pub fn build_levels(
     old: &[u16],
     oldmasks: &[u32],
@@ -26,10 +35,8 @@ pub fn build_levels(
     states: u16,
     k: u8,
     g: Gate,
-    level: u8,
-    left: u8,
+    here: Here,
     cur: &mut [u64],
-    count: u16,
     next: &mut [u64],
     link: &mut [u16],
     heads: &mut [u16],
@@ -38,16 +45,18 @@ pub fn build_levels(
     coefs: &mut [i32],
     counts: &mut [u16],
     room: Room,
-    start: u16,
 ) -> Outcome
-    requires { ⌜ Going (now old) (now oldmasks) (now numbers) (now first) states k (gateIs g) level left (now cur) count ⌝ }
-    requires { ⌜ Lists (now cur) (now next) (now link) (now heads) (room .states) start ⌝ }
-    requires { ⌜ Rest (now rows) (now masks) (now coefs) (now counts) left count room ⌝ }
+    requires { ⌜ Going (now old) (now oldmasks) (now numbers) (now first) states k (gateIs g) (here .level) (here .left) (now cur) (here .count) ⌝ }
+    requires { ⌜ Lists (now cur) (now next) (now link) (now heads) (room .states) (here .start) ⌝ }
+    requires { ⌜ Rest (now rows) (now masks) (now coefs) (now counts) (here .left) (here .count) room ⌝ }
     ensures { λ r. ⌜ Whole (now (rows .exit)) (now (masks .exit)) (now (coefs .exit)) (now (counts .exit)) room r
-        (number eqb (coded (gateIs g) (tableAutomaton (now (old .entry)) (now (oldmasks .entry)) (now (numbers .entry)) (now (first .entry)))) level left start (take count (now (cur .entry)))) ⌝ }
+        (number eqb (coded (gateIs g) (tableAutomaton (now (old .entry)) (now (oldmasks .entry)) (now (numbers .entry)) (now (first .entry))))
+        (here .level) (here .left) (here .start) (take (here .count) (now (cur .entry)))) ⌝ }
 {
+    let count = here.count;
+    let start = here.start;
     counts[0] = count;
-    if left == 0 {
+    if here.left == 0 {
         return last_level(
             old,
             oldmasks,
@@ -76,7 +85,7 @@ pub fn build_levels(
         first,
         states,
         g,
-        level,
+        here.level,
         cur,
         count,
         rows,
@@ -95,6 +104,12 @@ pub fn build_levels(
         leaves: room.leaves,
         states: spare,
     };
+    let under = Here {
+        level: here.level + 1,
+        left: here.left - 1,
+        count: done.keys,
+        start: base,
+    };
     let below = rest_levels(
         old,
         oldmasks,
@@ -103,10 +118,8 @@ pub fn build_levels(
         states,
         k,
         g,
-        level + 1,
-        left - 1,
+        under,
         next,
-        done.keys,
         cur,
         link,
         heads,
@@ -115,7 +128,6 @@ pub fn build_levels(
         coefs,
         counts,
         rest,
-        base,
         done.rows,
     );
     topped(done.rows, count, below)
@@ -130,10 +142,8 @@ pub fn rest_levels(
     states: u16,
     k: u8,
     g: Gate,
-    level: u8,
-    left: u8,
+    here: Here,
     cur: &mut [u64],
-    count: u16,
     next: &mut [u64],
     link: &mut [u16],
     heads: &mut [u16],
@@ -142,14 +152,14 @@ pub fn rest_levels(
     coefs: &mut [i32],
     counts: &mut [u16],
     room: Room,
-    start: u16,
     w: u16,
 ) -> Outcome
-    requires { ⌜ Going (now old) (now oldmasks) (now numbers) (now first) states k (gateIs g) level left (now cur) count ⌝ }
-    requires { ⌜ Lists (now cur) (now next) (now link) (now heads) (room .states) start ⌝ }
-    requires { ⌜ Past (now rows) (now masks) (now coefs) (now counts) left count w room ⌝ }
+    requires { ⌜ Going (now old) (now oldmasks) (now numbers) (now first) states k (gateIs g) (here .level) (here .left) (now cur) (here .count) ⌝ }
+    requires { ⌜ Lists (now cur) (now next) (now link) (now heads) (room .states) (here .start) ⌝ }
+    requires { ⌜ Past (now rows) (now masks) (now coefs) (now counts) (here .left) (here .count) w room ⌝ }
     ensures { λ r. ⌜ Below (now (rows .entry)) (now (masks .entry)) (now (counts .entry)) (now (rows .exit)) (now (masks .exit)) (now (coefs .exit)) (now (counts .exit)) w room r
-        (number eqb (coded (gateIs g) (tableAutomaton (now (old .entry)) (now (oldmasks .entry)) (now (numbers .entry)) (now (first .entry)))) level left start (take count (now (cur .entry)))) ⌝ }
+        (number eqb (coded (gateIs g) (tableAutomaton (now (old .entry)) (now (oldmasks .entry)) (now (numbers .entry)) (now (first .entry))))
+        (here .level) (here .left) (here .start) (take (here .count) (now (cur .entry)))) ⌝ }
 {
     let at = w as usize;
     build_levels(
@@ -160,18 +170,15 @@ pub fn rest_levels(
         states,
         k,
         g,
-        level,
-        left,
+        here,
         cur,
-        count,
         next,
         link,
         heads,
-        &mut rows[at * 3..],
+        &mut rows[at * ROW_WIDTH..],
         &mut masks[at..],
         coefs,
         &mut counts[1..],
         room,
-        start,
     )
 }

@@ -18,10 +18,10 @@ use Rattle.gates.specs.Key.{L, R, Key, plain, shifted, inside, pair}
 use Rattle.gates.specs.Roles.{keyEnds, pairEnd}
 use Rattle.gates.specs.Numbering as numbering
 use Rattle.stepwise.specs.Code.{tagIn, firstIn, secondIn, unstored}
-use Rattle.ending.specs.declared.Ending.{Ending}
+use Rattle.endrow.specs.declared.Ending.{Ending}
 use Rattle.lookup.specs.Alts.{endsIn}
 use Rattle.ending.specs.Ends.{endsOf}
-use Rattle.ending.specs.Ended.{Lent, Ended}
+use Rattle.endrow.specs.Ended.{Lent, Ended}
 use Rattle.ending.specs.Source.{sideIs}
 use Rattle.ending.proofs.Steps.{OnTheWay, way-begin, way-on, way-end, way-over, going}
 

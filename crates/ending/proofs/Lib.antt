@@ -1,5 +1,4 @@
 pub mod Steps
-pub mod Putting
 pub mod Singles
 pub mod Picks
 pub mod Pairs

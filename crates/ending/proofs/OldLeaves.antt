@@ -26,7 +26,8 @@ use Rattle.tables.proofs.Ordered.{formed-rises}
 use Rattle.lookup.specs.Lookup.{pairRow}
 use Rattle.lookup.proofs.Finding.{rising, begin, end, rows-there}
 use Rattle.lookup.proofs.AltsLaws.{leaf-alts}
-use Rattle.ending.specs.Source.{leafAmp, Readable, LeafState}
+use Rattle.endrow.specs.Leaf.{leafAmp, Readable}
+use Rattle.ending.specs.Source.{LeafState}
 
 each-record : {X : Type 0} (P : X → Type 0) (f : ℕ → X) (from count : ℕ) → Each P (recordsFrom f from 1 count) → (i : ℕ) → i < count → P (f (from + i))
 unfolding recordsFrom

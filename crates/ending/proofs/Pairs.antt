@@ -26,10 +26,11 @@ use Rattle.leafrows.specs.declared.Ranged.{Ranged}
 use Rattle.leafrows.specs.Value.{Tested}
 use Rattle.stepwise.specs.Meet.{union, pick, joined, maskOfJoined, meetLeft}
 use Rattle.stepwise.proofs.MeetLaws.{meet-exact}
-use Rattle.ending.specs.declared.Ending.{Ending}
+use Rattle.endrow.specs.declared.Ending.{Ending}
 use Rattle.lookup.specs.Alts.{leafAlts}
-use Rattle.ending.specs.Ended.{Ended}
-use Rattle.ending.specs.Source.{leafAmp, sideIs, pairAmp, rowAlt, rowAlts, Picked, Leaves, Distinct}
+use Rattle.endrow.specs.Ended.{Ended}
+use Rattle.endrow.specs.Leaf.{leafAmp, pairAmp}
+use Rattle.ending.specs.Source.{sideIs, rowAlt, rowAlts, Picked, Leaves, Distinct}
 use Rattle.ending.proofs.Steps.{OnTheWay, way-on, way-end, way-over, going}
 use Rattle.ending.proofs.Singles.{Adds, leaf-is}
 

@@ -18,10 +18,11 @@ use Rattle.lookup.specs.Lookup.{leafOf}
 use Rattle.leafrows.specs.declared.Ranged.{Ranged}
 use Rattle.leafrows.specs.Value.{Tested}
 use Rattle.leafrows.proofs.Rows.{row-leaf}
-use Rattle.ending.specs.declared.Ending.{Ending}
+use Rattle.endrow.specs.declared.Ending.{Ending}
 use Rattle.lookup.specs.Alts.{leafAlts}
-use Rattle.ending.specs.Ended.{Ended}
-use Rattle.ending.specs.Source.{leafAmp, Leaves}
+use Rattle.endrow.specs.Ended.{Ended}
+use Rattle.endrow.specs.Leaf.{leafAmp}
+use Rattle.ending.specs.Source.{Leaves}
 use Rattle.ending.proofs.Steps.{OnTheWay, way-on, way-end, way-over, going}
 
 -- a step that adds one record with an amplitude that was tested

@@ -14,24 +14,9 @@ use Rattle.automata.specs.Sets.{LF}
 use Rattle.stored.specs.Rules.{passes}
 use Rattle.gates.specs.Refuse.{leafFits}
 use Rattle.tables.specs.Table.{lfRows}
-use Rattle.ending.specs.declared.Ending.{Ending}
-use Rattle.ending.specs.Ended.{Lent, Ended}
-
--- ---- a test of every element
-module _ {X : Type 0} (test : X → Bool) where
-  passes-cons : (x : X) (xs : List X) → passes test (x ∷ xs) ≡ test x && passes test xs
-  passes-cons x xs = go (test x) refl
-    where
-      go : (b : Bool) → test x ≡ b → passes test (x ∷ xs) ≡ b && passes test xs
-      go true e = rw (e, compare·suc-suc) refl
-      go false e = rw e (ne-eqb 0 (suc (length xs)) (λ z. omega arith))
-
-  pub passes-one : (x : X) → passes test (x ∷ []) ≡ test x
-  passes-one x = passes-cons x [] ∙ and-true (test x)
-
-  pub passes-append : (xs ys : List X) → passes test (xs ++ ys) ≡ passes test xs && passes test ys
-  passes-append [] ys = refl
-  passes-append (x ∷ xs) ys = passes-cons x (xs ++ ys) ∙ ap (λ (b : Bool). test x && b) (passes-append xs ys) ∙ sym (and-assoc (test x) (passes test xs) (passes test ys)) ∙ ap (λ (b : Bool). b && passes test ys) (sym (passes-cons x xs))
+use Rattle.endrow.specs.declared.Ending.{Ending}
+use Rattle.endrow.proofs.Passing.{passes-append}
+use Rattle.endrow.specs.Ended.{Lent, Ended}
 
 -- ---- steps
 module _ {rows masks : List ℕ} {coefs : List ℤ} {done : Ending} {most : ℕ} where

@@ -5,31 +5,21 @@ use mathlib.Core.List.{List}
 use Prim.Native.Nat.{ℕ, _+_, _-_, _*_, _<_, _≤_}
 use lib.IntN.{ℤ}
 use lib.ListN.{length, getD}
-use Rattle.amplitude.specs.Amp.{Amp, _⊕_, _⊖_, inRangeA}
 use Rattle.automata.specs.Choice.{Alt, alt}
 use Rattle.automata.proofs.Choosing.{Disjoint}
 use Rattle.automata.proofs.Order.{Masked}
 use Rattle.stored.specs.Fields.{recordsFrom}
 use Rattle.gates.specs.Key.{Side, L, R}
-use Rattle.tables.specs.Table.{rowWidth, leafWidth}
 use Rattle.lookup.specs.Lookup.{pairRow}
-use Rattle.leafrows.specs.Row.{rowAmp}
 use Rattle.stepwise.specs.Code.{tagIn, firstIn, secondIn}
 use Rattle.stepwise.specs.Meet.{pick}
 use Rattle.lookup.specs.Alts.{endsIn}
-
--- the four numbers that row i names
-abbrev pub leafAmp : List ℕ → List ℤ → ℕ → Amp
-leafAmp rows coefs i = rowAmp coefs (pairRow rows i .0)
+use Rattle.endrow.specs.Leaf.{Readable}
 
 -- "A+B under L, A−B under R"
 abbrev pub sideIs : Bool → Side
 sideIs false = L
 sideIs true = R
-
-abbrev pub pairAmp : Bool → Amp → Amp → Amp
-pairAmp false x y = x ⊕ y
-pairAmp true x y = x ⊖ y
 
 -- row i as an alternative that is taken by its number, and `count` rows from row `from` on
 abbrev pub rowAlt : List ℕ → ℕ → Alt ℕ
@@ -43,12 +33,6 @@ pub record Picked (masks : List ℕ) (from to c i : ℕ) : Type 0 where
   pub after : from ≤ i
   pub before : i < to
   pub is : pick (rowAlt masks from) c (rowAlts masks from (to - from)) ≡ rowAlt masks i
-
--- row i is there, and what it names is there and in range
-pub record Readable (rows : List ℕ) (coefs : List ℤ) (i : ℕ) : Type 0 where
-  pub wide : i * rowWidth + rowWidth ≤ length rows
-  pub deep : pairRow rows i .0 * leafWidth + leafWidth ≤ length coefs
-  pub range : inRangeA (leafAmp rows coefs i) ≡ true
 
 -- the rows from `from` up to below `to` are leaves of one k
 pub record Leaves (rows masks : List ℕ) (coefs : List ℤ) (k from to : ℕ) : Type 0 where

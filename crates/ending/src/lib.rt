@@ -1,109 +1,25 @@
 // Document 01, "What each gate builds", at the leaves: the LF records of the last level, written into the rest of a lent table. The table read
 // is not changed. Leaves over the most that may be end the walk; a coefficient out of its range does not, since refusal 14 comes before 16.
-use leafrows::Amplitude;
-use leafrows::Ranged;
-use leafrows::amplitude_at;
-use leafrows::difference;
-use leafrows::store;
-use leafrows::sum;
-use leafrows::turned;
+use endrow::Ending;
+use endrow::grown;
+use endrow::joined_leaves;
+use endrow::put_end;
+use endrow::turned_leaf;
 use lookup::Found;
 use lookup::find_row;
 use lookup::union_of;
 use masks::least_choice;
-use tables::put_row;
 ghost use mathlib.Core.Path.{_≡_};
-ghost use mathlib.Core.List.{[], _∷_};
 ghost use Prim.Native.Nat.{ℕ, _+_, _-_, _≤_, _<_};
 ghost use lib.ListN.{length, getD, take};
-ghost use Rattle.amplitude.specs.Amp.{Amp, ω^};
-ghost use Rattle.amplitude.specs.Leaf.{leaf, turn};
+ghost use Rattle.amplitude.specs.Leaf.{turn};
 ghost use Rattle.automata.specs.Choice.{choicesMost, mapAlt, together};
-ghost use Rattle.automata.specs.Sets.{rec};
 ghost use Rattle.gates.specs.Roles.{pairEnd};
 ghost use Rattle.gates.specs.Numbering as numbering;
-ghost use Rattle.leafrows.specs.Value.{ampIs, InRange, Tested};
 ghost use Rattle.lookup.specs.Alts.{leafAlts};
 ghost use Rattle.ending.specs.Ends.{endsOf};
-ghost use Rattle.ending.specs.Ended.{Lent, Ended};
-ghost use Rattle.ending.specs.Source.{leafAmp, sideIs, pairAmp, Picked, Readable, Leaves, Distinct, LeafKey};
-
-// How many LF rows are written, whether they are within the most that may be, and whether every coefficient so far is in its range.
-pub struct Ending {
-    pub rows: u16,
-    pub ok: bool,
-    pub fits: bool,
-}
-
-// One record more, with the amplitude that was tested.
-pub fn put_end(
-    rows: &mut [u16],
-    masks: &mut [u32],
-    coefs: &mut [i32],
-    done: Ending,
-    most: u16,
-    state: u16,
-    mask: u32,
-    k: u16,
-    x: Ranged,
-) -> Ending
-    requires { ⌜ Lent (now rows) (now masks) (now coefs) most done ⌝ }
-    ensures { λ r. ⌜ ((y : Amp) → Tested y x → Ended (now (rows .entry)) (now (masks .entry)) (now (coefs .entry)) done most (rec state mask (leaf k y) ∷ []) (now (rows .exit)) (now (masks .exit)) (now (coefs .exit)) r) ⌝ }
-{
-    let w = done.rows;
-    if w == most {
-        return Ending {
-            rows: w,
-            ok: false,
-            fits: done.fits,
-        };
-    }
-    put_row(rows, masks, w as usize, state, mask, w, k);
-    store(coefs, w as usize, x.sum);
-    Ending {
-        rows: w + 1,
-        ok: true,
-        fits: done.fits & x.ok,
-    }
-}
-
-// A number of 16 bits as an index.
-fn index(x: u16) -> usize
-    ensures { λ r. ⌜ r ≡ x ⌝ }
-{
-    x as usize
-}
-
-// The amplitude that row i names.
-fn leaf_at(src: &[u16], numbers: &[i32], i: u16) -> Amplitude
-    requires { ⌜ Readable (now src) (now numbers) i ⌝ }
-    ensures { λ r. ⌜ (ampIs r ≡ leafAmp (now (src .entry)) (now (numbers .entry)) i) × InRange r ⌝ }
-{
-    let at = i as usize * 3 + 1;
-    amplitude_at(numbers, index(src[at]))
-}
-
-// The same times ω^shift: it is in range too.
-fn turned_leaf(src: &[u16], numbers: &[i32], i: u16, shift: u8) -> Ranged
-    requires { ⌜ Readable (now src) (now numbers) i ⌝ }
-    ensures { λ r. ⌜ Tested (ω^ shift (leafAmp (now (src .entry)) (now (numbers .entry)) i)) r ⌝ }
-{
-    let sum = turned(leaf_at(src, numbers, i), shift);
-    Ranged { ok: true, sum }
-}
-
-// "Leaves A, B give A+B under L, A−B under R."
-fn joined_leaves(src: &[u16], numbers: &[i32], i: u16, j: u16, minus: bool) -> Ranged
-    requires { ⌜ Readable (now src) (now numbers) i × Readable (now src) (now numbers) j ⌝ }
-    ensures { λ r. ⌜ Tested (pairAmp minus (leafAmp (now (src .entry)) (now (numbers .entry)) i) (leafAmp (now (src .entry)) (now (numbers .entry)) j)) r ⌝ }
-{
-    let x = leaf_at(src, numbers, i);
-    let y = leaf_at(src, numbers, j);
-    if minus {
-        return difference(x, y);
-    }
-    sum(x, y)
-}
+ghost use Rattle.endrow.specs.Ended.{Lent, Ended};
+ghost use Rattle.ending.specs.Source.{sideIs, Picked, Leaves, Distinct, LeafKey};
 
 // The first row from row `from` up to below row `to` whose mask has the choice; row `from` where there is none.
 fn pick_row(masks: &[u32], from: u16, to: u16, choice: u8) -> u16
@@ -181,7 +97,7 @@ fn end_pair(
     requires { ⌜ Lent (now rows) (now masks) (now coefs) most done ⌝ }
     ensures { λ r. ⌜ Ended (now (rows .entry)) (now (masks .entry)) (now (coefs .entry)) done most (numbering.rows state (together (pairEnd (sideIs minus)) (leafAlts (now (src .entry)) (now (choices .entry)) (now (numbers .entry)) qfrom (qto - qfrom)) (leafAlts (now (src .entry)) (now (choices .entry)) (now (numbers .entry)) pfrom (pto - pfrom)))) (now (rows .exit)) (now (masks .exit)) (now (coefs .exit)) r ⌝ }
 {
-    let up = k as u16 + 1;
+    let up = grown(k);
     let mut left = union_of(choices, qfrom, qto) & union_of(choices, pfrom, pto);
     let mut steps: u8 = 32;
     let mut d = done;

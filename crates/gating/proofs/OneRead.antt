@@ -22,11 +22,12 @@ use Rattle.gates.proofs.Fits.{Fits, AllFit, one-fits}
 use Rattle.stepwise.proofs.StoredLaws.{Light}
 use Rattle.refusals.specs.declared.Refusal.{Refusal}
 use Rattle.refusals.specs.Refused.{refusedBy}
-use Rattle.circuits.specs.Answer.{gateFrom, gateIs, gateAnswer, circuitAnswer}
+use Rattle.circuits.specs.Answer.{gateFrom, gateIs, gateAnswer}
+use Rattle.circuitfile.specs.Answer.{circuitAnswer}
 use Rattle.circuits.specs.declared.GateAnswer.{GateAnswer}
 use Rattle.circuits.specs.declared.GateAnswer.the-variants as ofGate
-use Rattle.circuits.specs.declared.CircuitAnswer.{CircuitAnswer}
-use Rattle.circuits.specs.declared.CircuitAnswer.the-variants as ofCircuit
+use Rattle.circuitfile.specs.declared.CircuitAnswer.{CircuitAnswer}
+use Rattle.circuitfile.specs.declared.CircuitAnswer.the-variants as ofCircuit
 use Rattle.circuits.specs.declared.Gate as code
 use Rattle.circuits.proofs.Answers.{gate-back}
 use Rattle.applying.proofs.ReadGates.{read-light}

@@ -21,8 +21,8 @@ use Rattle.tables.specs.Table.{rowWidth, leafWidth, tableSet}
 use Rattle.building.specs.declared.Room.{Room}
 use Rattle.standing.specs.Standing.{setIn, formOf, Stands, Holding}
 use Rattle.standing.proofs.StandingLaws.{set-n, set-inner, set-leaves}
-use Rattle.applying.specs.Result.{boundsFrom}
-use Rattle.applying.specs.Standing.{Lent}
+use Rattle.settling.specs.Result.{boundsFrom}
+use Rattle.settling.specs.Standing.{Lent}
 use Rattle.gating.specs.Gated.{lengthReply, largest, Target}
 
 module _ {rows masks : List ℕ} {coefs : List ℤ} {counts first : List ℕ} {form : Form} {room : Room} (s : Stands rows masks coefs counts first form (boundsFrom room)) where

@@ -19,7 +19,7 @@ use Rattle.circuits.specs.Answer.{gateFrom}
 use Rattle.tables.specs.Ready.{Roomy}
 use Rattle.building.specs.Going.{Lists}
 use Rattle.building.specs.declared.Room.{Room}
-use Rattle.applying.specs.Standing.{Lent}
+use Rattle.settling.specs.Standing.{Lent}
 use Rattle.gating.specs.declared.OneAnswer.{OneAnswer}
 use Rattle.gating.specs.declared.OneAnswer.the-variants.{Is, Bad}
 

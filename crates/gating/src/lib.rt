@@ -1,16 +1,18 @@
 // Document 01, the job *One gate*, in slices that are long enough and over any bounds: the set is read and unpacked, its gate applied from one table
 // to another, and the new set written to the output.
-use applying::GateResult;
+use settling::GateResult;
 use applying::apply_gate;
 use building::Room;
-use circuits::CircuitAnswer;
+use circuitfile::CircuitAnswer;
 use circuits::Gate;
 use circuits::GateAnswer;
 use circuits::gate_at;
-use circuits::read_one;
+use circuitfile::read_one;
 use loading::load;
 use packing::pack;
+use refusals::CIRCUIT;
 use refusals::Refusal;
+use refusals::START;
 use replies::Reply;
 use replies::made;
 use replies::refused;
@@ -34,14 +36,8 @@ ghost use Rattle.circuits.specs.Answer.{gateIs};
 ghost use Rattle.tables.specs.Ready.{Roomy};
 ghost use Rattle.packing.specs.Written.{atFront};
 ghost use Rattle.standing.specs.Standing.{setIn, Stands};
-ghost use Rattle.applying.specs.Result.{boundsFrom};
+ghost use Rattle.settling.specs.Result.{boundsFrom};
 ghost use Rattle.gating.specs.Gated.{firstAnswer, oneAnswer, gatedBy, newSetBy, lengthReply, largest, Target};
-
-// The source of a start set's refusals.
-const START: u8 = 1;
-
-// The source of a circuit's refusals.
-const CIRCUIT: u8 = 2;
 
 // The one gate of a circuit, or why it is refused.
 pub enum OneAnswer {

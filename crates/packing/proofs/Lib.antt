@@ -1,4 +1,3 @@
-pub mod Twos
 pub mod Front
 pub mod Rows
 pub mod File

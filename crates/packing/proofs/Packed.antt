@@ -12,7 +12,7 @@ use Rattle.stored.specs.Judge.{judgeSet}
 use Rattle.stored.specs.Pack.{fileOf}
 use Rattle.stored.proofs.WellFormed.{Narrow, WellFormed}
 use Rattle.stored.proofs.ReadBack.{read-back}
-use Rattle.packing.specs.Written.{atFront}
+use Rattle.putting.specs.Front.{atFront}
 
 pub packed-reads : (b : Bounds) → Narrow b → (Q : QSet) → WellFormed b Q → (source : ℕ) (entry : List ℕ) {exit : List ℕ} {r : ℕ}
     → r ≡ length (fileOf Q) → exit ≡ atFront (fileOf Q) entry → judgeSet b source (take r exit) ≡ good Q

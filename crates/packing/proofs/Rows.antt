@@ -17,8 +17,8 @@ use Rattle.stored.specs.Fields.{recordsFrom}
 use Rattle.stored.specs.Form.{lvSize, trSize, lfSize}
 use Rattle.stored.specs.Pack.{lvBytes, trBytes, lfBytes}
 use Rattle.stored.proofs.FieldLaws.{flat-length}
-use Rattle.packing.specs.Written.{atFront}
-use Rattle.packing.proofs.Front.{front-long, lent-on}
+use Rattle.putting.specs.Front.{atFront}
+use Rattle.putting.proofs.Front.{front-long, lent-on}
 
 -- ---- "its size includes them"
 pub lv-sized : (c : ℕ) → length (lvBytes c) ≡ lvSize

@@ -2,23 +2,16 @@
 use mathlib.Core.List.{List, _∷_, _++_}
 use Prim.Native.Nat.{ℕ, _+_, _*_, _≤_, _<_}
 use lib.IntN.{ℤ, pos}
-use lib.ListN.{length, getD, drop}
+use lib.ListN.{length, getD}
 use Rattle.amplitude.specs.Amp.{Amp, amp}
 use Rattle.stored.specs.Fields.{bytes16, bytes32, unsigned32}
 use Rattle.stored.specs.Form.{Form}
 use Rattle.tables.specs.Table.{rowWidth, leafWidth}
-
--- the bytes at the front, and those after them as they were
-abbrev pub atFront : List ℕ → List ℕ → List ℕ
-atFront bytes out = bytes ++ drop (length bytes) out
+pub use Rattle.putting.specs.Front.{atFront}
 
 -- HD: the mark, "version 1, n, k, zero (one byte each), states, inner, leaves (two bytes each)"
 abbrev pub headBytes : ℕ → ℕ → ℕ → ℕ → ℕ → List ℕ
 headBytes n k states inner leaves = 72 ∷ 68 ∷ 1 ∷ n ∷ k ∷ 0 ∷ (bytes16 states ++ (bytes16 inner ++ bytes16 leaves))
-
--- what TR and LF begin with: a mark, "state (2), mask (4)"
-abbrev pub startBytes : ℕ → ℕ → ℕ → ℕ → List ℕ
-startBytes first second state mask = first ∷ second ∷ (bytes16 state ++ bytes32 mask)
 
 -- the coefficient at a place
 abbrev pub coefBytes : List ℤ → ℕ → List ℕ
@@ -31,11 +24,6 @@ ampFrom coefs at = amp (getD coefs at (pos 0)) (getD coefs (at + 1) (pos 0)) (ge
 -- what HD says of a table
 abbrev pub tableForm : ℕ → ℕ → ℕ → ℕ → ℕ → Form
 tableForm n k states inner leaves = record { n = n; k = k; states = states; inner = inner; leaves = leaves }
-
--- row i is there: its three numbers and its mask
-pub record HasRow (rs ms : List ℕ) (i : ℕ) : Type 0 where
-  pub row : i * rowWidth + rowWidth ≤ length rs
-  pub mask : i < length ms
 
 -- the row of coefficients that the leaf in row i names is there
 abbrev pub HasCoefs : List ℕ → List ℤ → ℕ → Type 0

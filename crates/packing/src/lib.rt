@@ -2,116 +2,39 @@
 // output that the caller lends. Each function writes at the front of the slice that it is given and lends the unwritten tail on,
 // `&mut out[at..]`, for the part that follows: none can reach what an earlier one wrote, and the bytes past the file stay as they were.
 // The coefficients are taken as they stand: their range is the table's business, and any 32-bit number is packed.
+use putting::put_i32;
+use putting::put_u16;
+use recording::levels_of;
+use recording::put_lv;
+use recording::put_start;
+use recording::put_tr_row;
+use records::HD_SIZE;
+use records::LF_SIZE;
+use records::LV_SIZE;
+use records::TR_SIZE;
+use tables::LEAF_WIDTH;
+use tables::ROW_WIDTH;
 ghost use mathlib.Core.Path.{_≡_};
 ghost use mathlib.Core.List.{[], _∷_};
 ghost use Prim.Native.Nat.{_+_, _*_, _≤_, _<_};
 ghost use lib.ListN.{length, take};
-ghost use Rattle.automata.specs.Sets.{sum, tr};
+ghost use Rattle.automata.specs.Sets.{sum};
 ghost use Rattle.automata.specs.Members.{flat};
-ghost use Rattle.stored.specs.Fields.{bytes16, bytes32, unsigned32};
 ghost use Rattle.stored.specs.Form.{fileSize, hdSize, lvSize, trSize, lfSize};
 ghost use Rattle.stored.specs.Pack.{lvBytes, trBytes, ampBytes, lfBytes, fileOf};
-ghost use Rattle.packing.specs.Written.{atFront, headBytes, startBytes, coefBytes, ampFrom, tableForm, HasRow, HasCoefs, HasRows};
-ghost use Rattle.tables.specs.Table.{rowWidth, leafWidth, trRow, lfRow, trRows, lfRows, tableSet};
+ghost use Rattle.putting.specs.Front.{atFront};
+ghost use Rattle.recording.specs.Record.{HasRow};
+ghost use Rattle.packing.specs.Written.{headBytes, coefBytes, ampFrom, tableForm, HasCoefs, HasRows};
+ghost use Rattle.tables.specs.Table.{rowWidth, leafWidth, lfRow, trRows, lfRows, tableSet};
 
 // "version 1"
 const VERSION: u8 = 1;
-
-// "TR 12", "LF 24", and so on: the records' sizes.
-const HD_SIZE: usize = 12;
-
-const LV_SIZE: usize = 4;
-
-const TR_SIZE: usize = 12;
-
-const LF_SIZE: usize = 24;
-
-// A table has three numbers to a row and "four to a leaf".
-const ROW_WIDTH: usize = 3;
-
-const LEAF_WIDTH: usize = 4;
 
 // A number of a row, as a place.
 fn wide(x: u16) -> usize
     ensures { λ r. ⌜ (r ≡ x) × (r < 65536) ⌝ }
 {
     x as usize
-}
-
-// A number's two bytes, the low one first.
-fn put_u16(out: &mut [u8], x: u16)
-    requires { ⌜ 2 ≤ length (now out) ⌝ }
-    ensures { λ _. ⌜ now (out .exit) ≡ atFront (bytes16 x) (now (out .entry)) ⌝ }
-{
-    out[0] = (x % 256) as u8;
-    out[1] = (x / 256 % 256) as u8;
-}
-
-// A number's four bytes, the lowest first.
-pub fn put_u32(out: &mut [u8], x: u32)
-    requires { ⌜ 4 ≤ length (now out) ⌝ }
-    ensures { λ _. ⌜ now (out .exit) ≡ atFront (bytes32 x) (now (out .entry)) ⌝ }
-{
-    out[0] = (x % 256) as u8;
-    out[1] = (x / 256 % 256) as u8;
-    out[2] = (x / 65536 % 256) as u8;
-    out[3] = (x / 16777216 % 256) as u8;
-}
-
-// The bits of a signed number: "signed numbers in two's complement".
-fn bits_of(z: i32) -> u32
-    ensures { λ r. ⌜ r ≡ unsigned32 z ⌝ }
-{
-    if z < 0 {
-        return !((!z) as u32);
-    }
-    z as u32
-}
-
-// A signed number's four bytes.
-fn put_i32(out: &mut [u8], z: i32)
-    requires { ⌜ 4 ≤ length (now out) ⌝ }
-    ensures { λ _. ⌜ now (out .exit) ≡ atFront (bytes32 (unsigned32 z)) (now (out .entry)) ⌝ }
-{
-    put_u32(out, bits_of(z));
-}
-
-// A record's mark: two letters.
-fn put_mark(out: &mut [u8], first: u8, second: u8)
-    requires { ⌜ 2 ≤ length (now out) ⌝ }
-    ensures { λ _. ⌜ now (out .exit) ≡ atFront (first ∷ second ∷ []) (now (out .entry)) ⌝ }
-{
-    out[0] = first;
-    out[1] = second;
-}
-
-// LV: "states on this level".
-fn put_lv(out: &mut [u8], count: u16)
-    requires { ⌜ lvSize ≤ length (now out) ⌝ }
-    ensures { λ _. ⌜ now (out .exit) ≡ atFront (lvBytes count) (now (out .entry)) ⌝ }
-{
-    put_mark(out, b'L', b'V');
-    put_u16(&mut out[2..], count);
-}
-
-// What TR and LF begin with: the mark, "state (2), mask (4)".
-fn put_start(out: &mut [u8], first: u8, second: u8, state: u16, mask: u32)
-    requires { ⌜ 8 ≤ length (now out) ⌝ }
-    ensures { λ _. ⌜ now (out .exit) ≡ atFront (startBytes first second state mask) (now (out .entry)) ⌝ }
-{
-    put_mark(out, first, second);
-    put_u16(&mut out[2..], state);
-    put_u32(&mut out[4..], mask);
-}
-
-// TR: after its start "left (2), right (2)".
-fn put_tr(out: &mut [u8], state: u16, mask: u32, left: u16, right: u16)
-    requires { ⌜ trSize ≤ length (now out) ⌝ }
-    ensures { λ _. ⌜ now (out .exit) ≡ atFront (trBytes (tr state mask left right)) (now (out .entry)) ⌝ }
-{
-    put_start(out, b'T', b'R', state, mask);
-    put_u16(&mut out[8..], left);
-    put_u16(&mut out[10..], right);
 }
 
 // The coefficient at a place.
@@ -131,15 +54,6 @@ fn put_amp(out: &mut [u8], coefs: &[i32], at: usize)
     put_coef(&mut out[4..], coefs, at + 1);
     put_coef(&mut out[8..], coefs, at + 2);
     put_coef(&mut out[12..], coefs, at + 3);
-}
-
-// The TR record of row i.
-fn put_tr_row(out: &mut [u8], rows: &[u16], masks: &[u32], i: usize)
-    requires { ⌜ (trSize ≤ length (now out)) × HasRow (now rows) (now masks) i ⌝ }
-    ensures { λ _. ⌜ now (out .exit) ≡ atFront (trBytes (trRow (now (rows .entry)) (now (masks .entry)) i)) (now (out .entry)) ⌝ }
-{
-    let at = i * ROW_WIDTH;
-    put_tr(out, rows[at], masks[i], rows[at + 1], rows[at + 2]);
 }
 
 // The LF record of row i: after its start the coefficients of the leaf that the row names.
@@ -235,7 +149,7 @@ pub fn pack(
     ensures { λ r. ⌜ r ≡ length (fileOf (tableSet n k (now (rows .entry)) (now (masks .entry)) (now (coefs .entry)) (now (counts .entry)) inner leaves)) ⌝ }
     ensures { λ _. ⌜ now (out .exit) ≡ atFront (fileOf (tableSet n k (now (rows .entry)) (now (masks .entry)) (now (coefs .entry)) (now (counts .entry)) inner leaves)) (now (out .entry)) ⌝ }
 {
-    let levels = n as usize + 1;
+    let levels = levels_of(n);
     let trs_at = HD_SIZE + levels * LV_SIZE;
     let lfs_at = trs_at + inner as usize * TR_SIZE;
     put_hd(out, n, k, states, inner, leaves);

@@ -19,8 +19,8 @@ use Rattle.gates.specs.Circuit.{judgeCircuit}
 use Rattle.jobs.specs.Check.{Ready, ready}
 use Rattle.refusals.specs.declared.Refusal.{Refusal}
 use Rattle.refusals.specs.Refused.{refusedBy}
-use Rattle.circuits.specs.Answer.{circuitAnswer}
-use Rattle.circuits.specs.declared.CircuitAnswer.the-variants as ofCircuit
+use Rattle.circuitfile.specs.Answer.{circuitAnswer}
+use Rattle.circuitfile.specs.declared.CircuitAnswer.the-variants as ofCircuit
 use Rattle.setfile.specs.declared.Form.{Form}
 use Rattle.setfile.specs.declared.SetAnswer.the-variants.{Good, Bad}
 use Rattle.setfile.proofs.Taken.{Taken}

@@ -1,9 +1,11 @@
 // All files of a check, before any gate: document 01, "start set 1 to 10, circuit 11 and 12, end set 1 to 10, 13". Good sets are unpacked, the start
 // set into one table and the end set into another.
-use circuits::CircuitAnswer;
-use circuits::read_circuit;
+use circuitfile::CircuitAnswer;
+use circuitfile::read_circuit;
 use loading::load;
+use refusals::END;
 use refusals::Refusal;
+use refusals::START;
 use setfile::Bounds;
 use setfile::Form;
 use setfile::SetAnswer;
@@ -19,11 +21,6 @@ ghost use Rattle.tables.specs.Ready.{Roomy};
 ghost use Rattle.setfile.specs.Answer.{boundsOf};
 ghost use Rattle.standing.specs.Standing.{formOf, Holding};
 ghost use Rattle.preparing.specs.Prepared.{sameN, endJudged, endReady, restJudged, filesJudged, formAnswer, preparedOf};
-
-// The sources of the start set's and of the end set's refusals.
-const START: u8 = 1;
-
-const END: u8 = 3;
 
 // What both sets say of themselves, and how many gates the circuit has.
 pub struct Files {

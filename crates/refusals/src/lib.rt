@@ -5,3 +5,10 @@ pub struct Refusal {
     pub source: u8,
     pub place: u32,
 }
+
+// The sources of refusals: the start set, the circuit and the end set.
+pub const START: u8 = 1;
+
+pub const CIRCUIT: u8 = 2;
+
+pub const END: u8 = 3;

@@ -2,7 +2,7 @@
 // serves every job. `replyFrom` of specs/Replied.antt is the struct of a reply of the definitions, and each maker's promise names it.
 // Only `put_bytes` has a `requires`: a reply buffer may be of any length.
 use bytes::copy;
-use packing::put_u32;
+use putting::put_u32;
 use refusals::Refusal;
 use wiping::zero_front_u8;
 ghost use mathlib.Core.Path.{_≡_};

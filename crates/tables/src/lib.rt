@@ -22,9 +22,9 @@ ghost use Rattle.tables.specs.Unpack.{widthOf, rowRead, Put, Room, Fille
 ghost use Rattle.tables.specs.Ready.{Ready, Roomy, Unpacked};
 
 // A row's places in `rows`, and a leaf's in `coefs`.
-const ROW_WIDTH: usize = 3;
+pub const ROW_WIDTH: usize = 3;
 
-const LEAF_WIDTH: usize = 4;
+pub const LEAF_WIDTH: usize = 4;
 
 // Which records: TR, or LF of a set with this k.
 enum Kind {

@@ -1,7 +1,7 @@
 // Reads each file that its arguments name and prints what reading answers: a set's header, a circuit's number of gates, or the refusal.
 // A name says how a file is read: set-.. as a start set, end-.. as an end set, gates-N-.. as a circuit and one-N-.. as the one-gate job's
 // circuit, both held to N qubits.
-use circuits::CircuitAnswer;
+use circuitfile::CircuitAnswer;
 use libc::STDOUT_FILENO;
 use refusals::Refusal;
 use setfile::Bounds;
@@ -78,8 +78,8 @@ fn answer(name: &[u8], file: &[u8]) {
     match kind {
         115 => read_as_set(file, 1024, 1),
         101 => read_as_set(file, 128, 3),
-        103 => print_circuit(circuits::read_circuit(file, qubits(name, 6))),
-        111 => print_circuit(circuits::read_one(file, qubits(name, 4))),
+        103 => print_circuit(circuitfile::read_circuit(file, qubits(name, 6))),
+        111 => print_circuit(circuitfile::read_one(file, qubits(name, 4))),
         _ => {}
     }
 }

@@ -24,14 +24,14 @@ abbrev μ-loop : tie.MeasureT-loop
 
 -- the function's entry, seen from a turn of the loop
 abbrev start : tie.Then1 Inv-loop μ-loop → tie.Start Inv-loop μ-loop
-start t = t .before .before .before .before .before .before .before .before .before
+start t = t .before .before .before .before .before .before .before .before .before .before
 
 turning : (t : tie.Then1 Inv-loop μ-loop) → (0 < t .before .before .loop .left) × (0 < t .before .before .loop .steps) × (t .before .before .loop .d .ok ≡ true)
 turning t = let l = t .before .before .loop in pair-going (l .left) (l .steps) (l .d .ok) (t .if1 .taken)
 
 loop-holds : tie.Need-loop-holds Inv-loop μ-loop
 loop-holds c =
-    let s = c .before .before .before .before .before .before in
+    let s = c .before .before .before .before .before .before .before in
     let a = s .args in
     let u = c .before .union-of .ensures in
     let v = c .union-of2 .ensures in (
@@ -85,13 +85,14 @@ loop-again c =
       xor-lt 32 (l .left) _ (l .inv .0) (omega (arith, m, j .before .before .shared-slice-known3 .given (i .pick-row .result))),
       λ h. l .inv .1 (g .0),
       pair-on (now (a .src)) (now (a .choices)) (now (a .numbers)) (a .qfrom) (a .qto) (a .pfrom) (a .pto) (a .minus) (a .state) (s .pre .0 .0) (s .pre .0 .1) (l .steps) (l .left) (l .inv .2) (g .0) (g .1) (g .2)
-          (i .before .least-choice .ensures .0) (i .pick-row .ensures) (q .pick-row2 .ensures) (j .joined-leaves .ensures) (p .put-end .ensures),
+          (i .before .least-choice .ensures .0) (i .pick-row .ensures) (q .pick-row2 .ensures) (j .joined-leaves .ensures)
+          (rw (t .before .before .before .before .before .grown .ensures) at (p .put-end .ensures)),
     )
 
 returns : tie.Need-returns Inv-loop μ-loop
 returns c =
     let l = c .before .before .loop in
-    let s = c .before .before .before .before .before .before .before .before .before in
+    let s = c .before .before .before .before .before .before .before .before .before .before in
     let a = s .args in
     pair-end (now (a .src)) (now (a .choices)) (now (a .numbers)) (a .qfrom) (a .qto) (a .pfrom) (a .pto) (a .minus) (a .state) (s .pre .0 .0) (s .pre .0 .1) (l .steps) (l .left) (l .inv .2) (c .if1 .left)
 

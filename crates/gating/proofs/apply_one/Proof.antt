@@ -10,8 +10,8 @@ use Rattle.jobs.specs.OneGate.{withFile}
 use Rattle.replies.specs.Replied.{replyFrom}
 use Rattle.circuits.specs.Answer.{gateIs}
 use Rattle.standing.specs.Standing.{setIn}
-use Rattle.applying.specs.Result.{boundsFrom}
-use Rattle.applying.proofs.Results.{made-good, refused-told}
+use Rattle.settling.specs.Result.{boundsFrom}
+use Rattle.settling.proofs.Results.{made-good, refused-told}
 use Rattle.gating.specs.Gated.{lengthReply}
 use Rattle.gating.proofs.Storing.{n-few, target-narrow, target-lent, made-stands, made-reply, made-output}
 use borrow.Author.Needs.{needs}

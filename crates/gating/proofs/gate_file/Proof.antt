@@ -7,7 +7,7 @@ use Rattle.stored.specs.Form.{setOf}
 use Rattle.setfile.specs.Answer.{formRead}
 use Rattle.setfile.proofs.Taken.{taken, turned-down}
 use Rattle.standing.specs.Standing.{setIn}
-use Rattle.applying.specs.Result.{boundsFrom}
+use Rattle.settling.specs.Result.{boundsFrom}
 use Rattle.gating.specs.Gated.{gatedBy, newSetBy}
 use Rattle.gating.proofs.GateOn.{same-reply, same-output, not-started, started-stands, started}
 use borrow.Author.Needs.{needs}

@@ -4,7 +4,7 @@ use denote.Ref.{now}
 use Rattle.gates.specs.Refuse.{judgeGate}
 use Rattle.circuits.specs.Answer.{gateIs}
 use Rattle.standing.specs.Standing.{setIn}
-use Rattle.applying.specs.Result.{boundsFrom}
+use Rattle.settling.specs.Result.{boundsFrom}
 use Rattle.gating.specs.Gated.{gatedBy}
 use Rattle.gating.proofs.GateOn.{may-apply, gate-on, no-gate, same-reply, same-output}
 use borrow.Author.Needs.{needs}

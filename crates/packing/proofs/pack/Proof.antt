@@ -5,8 +5,9 @@ use mathlib.Core.List.{List, _++_}
 use Prim.Native.Nat.{ℕ}
 use native.Mathlib.Omega.{arith}
 use denote.Ref.{now}
-use Rattle.packing.specs.Written.{atFront, headBytes}
-use Rattle.packing.proofs.Front.{lent-on}
+use Rattle.putting.specs.Front.{atFront}
+use Rattle.packing.specs.Written.{headBytes}
+use Rattle.putting.proofs.Front.{lent-on}
 use Rattle.packing.proofs.File.{lvsOf, trsOf, lfsOf, laid}
 use borrow.Author.Needs.{needs}
 use Rattle.packing.proofs.pack.Statement.{statement}
@@ -16,7 +17,7 @@ put-lfs-requires : tie.Need-put-lfs-requires
 put-lfs-requires c κs =
     let t = c .before .before .before in
     let h = t .before .before .before .before .before .before .before .before in
-    (search needs, h .before .before .before .before .before .before .pre .1 .0)
+    (search needs, h .before .before .before .before .before .before .before .pre .1 .0)
 
 returns : tie.Need-returns
 returns c =
@@ -24,7 +25,8 @@ returns c =
     let t = l .before .before .before .before in
     let v = t .before .before .before .before in
     let h = v .before .before .before .before in
-    let d = h .before .before .before .before .before .before in
+    let g = h .before .before in
+    let d = g .before .before .before .before .before in
     let a = d .args in
     let out = now (a .out) in
     let rows = now (a .rows) in
@@ -38,7 +40,7 @@ returns c =
     let f = laid (a .n) (a .k) (a .states) (a .inner) (a .leaves) rows masks coefs counts (d .pre .0 .0) (d .pre .0 .1) in
     let at-trs = f .atTrs in
     let at-lfs = f .atLfs in
-    let levels = lent-on out head lvs refl (omega arith) (h .put-hd .ensures) (v .put-levels .ensures) in
+    let levels = lent-on out head lvs refl (omega arith) (h .put-hd .ensures) (rw (g .levels-of .ensures) at (v .put-levels .ensures)) in
     let inner = lent-on out (head ++ lvs) trs (omega arith) (omega arith) levels (t .put-trs .ensures) in
     let leaves = lent-on out ((head ++ lvs) ++ trs) lfs (omega arith) (omega arith) inner (l .put-lfs .ensures) in
     (omega (arith, f .long), leaves ∙ ap (λ (bytes : List ℕ). atFront bytes out) (f .parts))
@@ -46,7 +48,7 @@ returns c =
 pub pack-spec : {M : Type 1} → statement M
 pack-spec =
     tie.close
-    (tie.spec (λ c. search needs) (λ c. search needs) (λ c. search needs) (λ c. search needs) (λ c. search needs)
+    (tie.spec (λ c κs. search needs) (λ c. search needs) (λ c. search needs) (λ c. search needs) (λ c. search needs)
     (λ c κs. search needs) (λ c. search needs) (λ c. search needs) (λ c. search needs) (λ c κs. search needs)
     (λ c. search needs) (λ c. search needs) (λ c. search needs) (λ c κs. search needs) (λ c. search needs) (λ c. search needs)
     (λ c. search needs) put-lfs-requires (λ c. search needs) (λ c. search needs) (λ c. search needs) returns)

@@ -5,7 +5,7 @@ use Prim.Native.Nat.{ℕ, _+_}
 use native.Mathlib.Omega.{arith}
 use denote.Ref.{now}
 use Rattle.packing.specs.Written.{coefBytes}
-use Rattle.packing.proofs.Front.{lent-on}
+use Rattle.putting.proofs.Front.{lent-on}
 use borrow.Author.Needs.{needs}
 use Rattle.packing.proofs.put_amp.Statement.{statement}
 use Rattle.packing.proofs.put_amp.Tie as tie

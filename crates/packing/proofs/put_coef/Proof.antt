@@ -6,7 +6,7 @@ use denote.Ref.{now}
 use mir.Syntax.{w32}
 use mir.Facts.{toZ-ofZ}
 use Rattle.stored.specs.Fields.{bytes32, unsigned32}
-use Rattle.packing.specs.Written.{atFront}
+use Rattle.putting.specs.Front.{atFront}
 use borrow.Author.Needs.{needs}
 use Rattle.packing.proofs.put_coef.Statement.{statement}
 use Rattle.packing.proofs.put_coef.Tie as tie

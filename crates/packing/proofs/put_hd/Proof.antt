@@ -5,7 +5,7 @@ use Prim.Native.Nat.{ℕ}
 use native.Mathlib.Omega.{arith}
 use denote.Ref.{now}
 use Rattle.stored.specs.Fields.{bytes16}
-use Rattle.packing.proofs.Front.{lent-on}
+use Rattle.putting.proofs.Front.{lent-on}
 use borrow.Author.Needs.{needs}
 use Rattle.packing.proofs.put_hd.Statement.{statement}
 use Rattle.packing.proofs.put_hd.Tie as tie

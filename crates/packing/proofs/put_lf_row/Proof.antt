@@ -6,8 +6,9 @@ use lib.ListN.{getD}
 use denote.Ref.{now}
 use Rattle.stored.specs.Pack.{ampBytes}
 use Rattle.tables.specs.Table.{leafRow, lfRow}
-use Rattle.packing.specs.Written.{startBytes, ampFrom}
-use Rattle.packing.proofs.Front.{lent-on}
+use Rattle.recording.specs.Record.{startBytes}
+use Rattle.packing.specs.Written.{ampFrom}
+use Rattle.putting.proofs.Front.{lent-on}
 use borrow.Author.Needs.{needs}
 use Rattle.packing.proofs.put_lf_row.Statement.{statement}
 use Rattle.packing.proofs.put_lf_row.Tie as tie

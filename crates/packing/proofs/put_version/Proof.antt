@@ -3,7 +3,7 @@ use mathlib.Core.List.{[], _∷_}
 use native.Mathlib.Omega.{arith}
 use lib.ListN.{length-set}
 use denote.Ref.{now}
-use Rattle.packing.proofs.Front.{stored}
+use Rattle.putting.proofs.Front.{stored}
 use borrow.Author.Needs.{needs}
 use Rattle.packing.proofs.put_version.Statement.{statement}
 use Rattle.packing.proofs.put_version.Tie as tie
