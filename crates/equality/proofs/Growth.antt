@@ -26,6 +26,10 @@ within-√2 m (amp a b c d) (p, q, r, s) = (
   omega (arith, natAbs-sum c (negℤ a), natAbs-neg a),
 )
 
+-- two steps more are a doubling
+pub two-steps : (d : ℕ) (x : Amp) → √2^ (suc (suc d)) x ≡ √2^ d x ⊕ √2^ d x
+two-steps d x = √2-twice (√2^ d x)
+
 -- the bound after d steps
 abbrev bound : ℕ → ℕ
 bound d = most * 2 ^ ((d + 1) / 2)
@@ -38,7 +42,7 @@ bound-twice d =
 grown : (d : ℕ) (x : Amp) → Within most x → Within (bound d) (√2^ d x)
 grown zero x h = h
 grown (suc zero) x h = within-√2 most x h
-grown (suc (suc d)) x h = rw (√2-twice (√2^ d x), ← bound-twice d) (within-double (bound d) (√2^ d x) (grown d x h))
+grown (suc (suc d)) x h = rw (two-steps d x, ← bound-twice d) (within-double (bound d) (√2^ d x) (grown d x h))
 
 pub within-√2^ : (d : ℕ) (x : Amp) → d ≤ kMost → Within most x → Within wideMost (√2^ d x)
 within-√2^ d x h p =

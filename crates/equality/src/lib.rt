@@ -1,10 +1,10 @@
 // Document 01, "Equal": two amplitudes are compared across k. The one with the smaller k is first multiplied by √2 once per unit of
-// difference, in 64 bits: 64 steps from a coefficient in range reach at most 2^62, since two steps double.
+// difference, in 64 bits: two such steps are one doubling, so that 64 from a coefficient in range reach at most 2^62.
 use leafrows::Amplitude;
 ghost use mathlib.Core.Path.{_≡_};
 ghost use Prim.Native.Nat.{_-_, _≤_};
 ghost use lib.IntN.{_+ℤ_, _-ℤ_, natAbs};
-ghost use Rattle.amplitude.specs.Amp.{times√2, √2^, sameZ, sameA};
+ghost use Rattle.amplitude.specs.Amp.{times√2, _⊕_, √2^, sameZ, sameA};
 ghost use Rattle.amplitude.specs.Leaf.{leaf, same, kMost};
 ghost use Rattle.leafrows.specs.Value.{ampIs, InRange, Within};
 ghost use Rattle.equality.specs.Wide.{wideIs, wideMost};
@@ -65,18 +65,36 @@ fn times_root(x: Wide) -> Wide
     }
 }
 
-// Times √2^d.
+// "Twice is doubling."
+fn doubled(x: Wide) -> Wide
+    requires { ⌜ Within wideMost (wideIs x ⊕ wideIs x) ⌝ }
+    ensures { λ r. ⌜ wideIs r ≡ wideIs x ⊕ wideIs x ⌝ }
+{
+    Wide {
+        a: plus(x.a, x.a),
+        b: plus(x.b, x.b),
+        c: plus(x.c, x.c),
+        d: plus(x.d, x.d),
+    }
+}
+
+// Times √2^d: "Double once for each two units of difference, with at most one single step."
 pub fn raised(x: Amplitude, d: u8) -> Wide
     requires { ⌜ InRange x × (d ≤ kMost) ⌝ }
     ensures { λ r. ⌜ wideIs r ≡ √2^ d (ampIs x) ⌝ }
 {
     let mut product = widened(x);
+    let pairs = d / 2;
     let mut done: u8 = 0;
-    while done < d {
-        product = times_root(product);
+    while done < pairs {
+        product = doubled(product);
         done += 1;
     }
-    product
+    if d % 2 == 1 {
+        times_root(product)
+    } else {
+        product
+    }
 }
 
 fn same_number(x: i64, y: i64) -> bool
