@@ -11,7 +11,7 @@ use std::process::{Command, Stdio};
 use std::time::{Duration, Instant};
 
 /// The families that are timed, in the table's order. The others are only compared, and by the walk in Rust alone.
-const TIMED: [&str; 16] = [
+const TIMED: [&str; 17] = [
     "basis",
     "ghz",
     "ghz-reversed",
@@ -28,6 +28,7 @@ const TIMED: [&str; 16] = [
     "choices-few-allowed",
     "choices-other-leaf",
     "choices-no-leaf",
+    "far-k",
 ];
 const ROUNDS: usize = 5;
 /// What takes longer when it is compared is not timed.

@@ -32,6 +32,7 @@ WANTED = {
     **{f"number {i}, a later gate": 3 for i in (12, 14, 15, 16)},
     **{f"{d} {where} the bound": 2 for d in ("states", "inner", "leaves") for where in ("at", "over")},
     **{f"catches {error}": 20 for error in errors.ERRORS},
+    **{f"k {d} apart, {kind}": 2 for d in check_random.K_APART for kind in ("equal", "unequal by one", "at the ends")},
 }
 
 
@@ -52,6 +53,7 @@ def main(path):
     check_refused.order()
     check_refused.bounds(3)
     check_refused.damaged(200)
+    check_random.k_apart(3)
     lacking = [f"{k}: {kinds[k]} of {least}" for k, least in WANTED.items() if kinds[k] < least]
     for line in lacking:
         print("too few of", line)

@@ -1,14 +1,18 @@
-"""Random jobs of the check: an image as end set, written another way or spoiled; mixtures, unions, choices that must be gone back over; deep sets."""
+"""Random jobs of the check: an image as end set, written another way or spoiled; mixtures, unions, choices that must be gone back over; deep sets; k far apart."""
+import itertools
+
 import check
 import check_sets
 from check import FAILS, HOLDS
-from check_jobs import MOST, kinds, rng, small_enough, with_allowances
+from check_jobs import MOST, kinds, on_sets, rng, small_enough, with_allowances
+from check_named import flat
 from check_sets import SPOILED, WRITTEN, fits, misled, mixture, of_vectors
-from gate_sets import Draft, random_set
-from gates import apply, build, members
+from gate_sets import END, Draft, random_set
+from gates import apply, build, members, root2
 from sets import Set
 
 TINY = (0, 0, 0, 0, 1, 1, -1, 2)
+K_APART = (0, 1, 2, 59, 60, 63, 64)
 INVERSE = {5: 6, 6: 5, 7: 8, 8: 7}
 
 
@@ -219,3 +223,30 @@ def deep(count):
             if check.verdict(s, circuit, bad, MOST).kind == FAILS:
                 break
         with_allowances(f"deep, spoiled, n {n}, {i}", s, circuit, bad)
+
+
+def k_apart(count):
+    """One leaf on each side, their k apart: equal, unequal by one in one coefficient, and at both ends of the range."""
+    values = (-END, -END // 2, -1, 0, 1, END // 2, END)
+    leaves = list(itertools.product(values, repeat=4))
+    for d in K_APART:
+        def held(kind, x, y):
+            """The leaf x at a k that is d under that of y, as start and as end."""
+            low = rng.randint(0, 64 - d)
+            for s, e in ((flat(x, low), flat(y, low + d)), (flat(y, low + d), flat(x, low))):
+                full = on_sets(f"k {d} apart, {kind}, {x} and {y}", s, [], e, MOST)
+                assert full.kind == (HOLDS if root2(x, d) == y else FAILS)
+                kinds[f"k {d} apart, {kind}"] += 1
+
+        fitting = [x for x in leaves if max(map(abs, root2(x, d))) <= END]
+        far = [x for x in fitting if END in map(abs, x + root2(x, d))]
+        for x in rng.sample(fitting, min(count, len(fitting))) + rng.sample(far, min(count, len(far))):
+            y = root2(x, d)
+            held("equal", x, y)
+            for i in range(4):
+                off = y[i] + (-1 if y[i] == END else 1 if y[i] == -END else rng.choice((-1, 1)))
+                held("unequal by one", x, y[:i] + (off,) + y[i + 1:])
+        for x in rng.sample([x for x in leaves if set(map(abs, x)) == {END}], count):
+            for y in sorted({(0, 0, 0, 0), tuple(-v for v in x), root2(x, d % 2)} - {root2(x, d)}):
+                if max(map(abs, y)) <= END:
+                    held("at the ends", x, y)

@@ -6,6 +6,7 @@ usage: families.py write DIR N..        writes DIR/NAME-N.job and DIR/NAME-N.lin
        families.py random DIR COUNT     writes so many small random jobs of check_random.py in the same way
        families.py self-test
 """
+import itertools
 import pathlib
 import sys
 
@@ -173,6 +174,14 @@ def crowd(n, bits=None, trees=5, poor=False):
     return named(0, levels + [{"free": [(every, ONE)], "zero": [(every, ZERO)]} | {x: [(1 << x, ZERO)] for x in range(trees)}])
 
 
+def many_leaves(n, k, size, choices, masks):
+    """One path, and on the last qubit so many choices, each with two leaf states of its own. A leaf state has so many records, all with one amplitude, whose coefficients are this size or 0."""
+    amplitudes = [tuple(v * size for v in x) for x in itertools.product((1, -1, 0), repeat=4) if any(x)]
+    levels = [{"path": [(1, "path", "path")]} for _ in range(n - 1)]
+    levels += [{"path": [(1 << c, 2 * c, 2 * c + 1) for c in range(choices)]}]
+    return named(k, levels + [{q: [(1 << m, amplitudes[q]) for m in range(masks)] for q in range(2 * choices)}])
+
+
 # ---- jobs
 def bits_of(place, n):
     """The choices of the basis start of this place, from 1, without that of the leaves."""
@@ -245,6 +254,12 @@ def of_crowds(n):
     yield "crowd-one-not-allowed", starts, [], crowd(n, bits), place - 1, f"undecided {place - 1}"
 
 
+def of_far_k(n):
+    """The end set's k is 60 over that of the start set, so that every leaf is multiplied by √2^60 when it is compared: 1,024 leaves with as many, fewer for n under 8."""
+    choices, masks = (16, 32) if n >= 8 else (2, 4)
+    yield "far-k", many_leaves(n, 0, 1, choices, masks), [], many_leaves(n, 60, 1 << 30, choices, masks), MOST, f"holds {choices * masks}"
+
+
 def parts(s, circuit, e):
     """The three files; an end set that is too large or a gate that is refused is an error here."""
     assert read_set(file_of(s)) == s and read_set(file_of(e), END_BOUNDS) == e
@@ -257,7 +272,7 @@ def parts(s, circuit, e):
 
 def jobs(n):
     """(name, start, circuit, end, allowance, line)"""
-    for family in (of_basis_states, of_every_choice, of_one_failing, of_crowds):
+    for family in (of_basis_states, of_every_choice, of_one_failing, of_crowds, of_far_k):
         for name, s, circuit, e, allowance, line in family(n):
             yield name, *parts(s, circuit, e), allowance, line
 
@@ -292,7 +307,7 @@ def self_test():
     """Every family over dense vectors, for so few qubits that an end set has not too many words."""
     held = 0
     for n in range(1, 6):
-        for family in (of_every_choice,) * (n <= 2) + (of_basis_states, of_one_failing) * (n >= 2) + (of_crowds,) * (2 <= n <= 4):
+        for family in (of_every_choice,) * (n <= 2) + (of_basis_states, of_one_failing, of_far_k) * (n >= 2) + (of_crowds,) * (2 <= n <= 4):
             for name, s, circuit, e, allowance, line in family(n):
                 got = check.check(*parts(s, circuit, e), allowance)
                 assert got == line, (name, n, line, got)
