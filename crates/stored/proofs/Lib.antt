@@ -1,5 +1,6 @@
 pub mod FieldLaws
 pub mod ScanLaws
+pub mod Places
 pub mod OrderLaws
 pub mod Levels
 pub mod WellFormed

@@ -15,11 +15,11 @@ use Rattle.automata.proofs.Lists.{Each}
 use Rattle.stored.specs.Refusal.{good}
 use Rattle.stored.specs.Fields.{u16At, u32At, i32At, signed32, unsigned32, markAt, recordsFrom}
 use Rattle.stored.specs.Form.{Form, formOf, hdSize, lvSize, trSize, lfSize, trsAt, lfsAt, fileSize, countAt, trAt, lfAt, setOf}
-use Rattle.stored.specs.Rules.{Bounds, setBounds, passes, levelOf, headOk, versionOk, rangesOk, countsOk, lengthOk, marksOk, levelsOk}
+use Rattle.stored.specs.Rules.{Bounds, setBounds, passes, levelOf, headOk, versionOk, rangesOk, countsOk, lengthOk, lvMarks, trMarks, lfMarks, laterMarks, marksOk, levelsOk}
 use Rattle.stored.specs.Judge.{judgeSet}
 use Rattle.stored.specs.Pack.{hdBytes, lvBytes, trBytes, lfBytes, fileOf}
 use Rattle.stored.proofs.FieldLaws.{u16-seam, u32-seam, i32-seam, mark-seam, split16, split32, signed-unsigned, unsigned-small, flat-length, read-all}
-use Rattle.stored.proofs.ScanLaws.{each-passes}
+use Rattle.stored.proofs.ScanLaws.{each-passes, passes-append}
 use Rattle.stored.proofs.WellFormed.{Narrow, WellFormed, maskIn, kIn, FineTR, FineLF, in-range, trs-fine, lfs-fine, state-small}
 
 -- ---- each kind of record reads back
@@ -263,8 +263,11 @@ module _ (b : Bounds) (narrow : Narrow b) (Q : QSet) (w : WellFormed b Q) where
   length-passes = eq-eqb _ _ file-length
 
   marks-pass : marksOk (fileOf Q) (formFor Q) ≡ true
-  unfolding marksOk
-  marks-pass = rw (lv-marks, tr-marks, lf-marks)
+  unfolding marksOk laterMarks
+  marks-pass =
+      let s : List ℕ = fileOf Q in
+      let F : Form = formFor Q in
+      passes-append (λ ok. ok) (lvMarks s F) (trMarks s F ++ lfMarks s F) lv-marks (passes-append (λ ok. ok) (trMarks s F) (lfMarks s F) tr-marks lf-marks)
 
   levels-pass : levelsOk (sum (Q .counts)) Q ≡ true
   unfolding levelsOk

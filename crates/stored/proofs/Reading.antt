@@ -11,7 +11,7 @@ use Rattle.amplitude.specs.Leaf.{kMost}
 use Rattle.amplitude.proofs.Equal.{both}
 use Rattle.automata.specs.Sets.{QSet, sum, roots}
 use Rattle.automata.proofs.Lists.{Each}
-use Rattle.stored.specs.Refusal.{Refusal, refusal, Judged, refused, good, need}
+use Rattle.stored.specs.Refusal.{Refusal, Judged, refused, good, need}
 use Rattle.stored.specs.Fields.{u16At, u32At, recordsFrom}
 use Rattle.stored.specs.Form.{Form, formOf, hdSize, lvSize, trSize, lfSize, levels, trsAt, lfsAt, countAt, trAt, lfAt, setOf}
 use Rattle.stored.specs.Rules.{Bounds, nMost, rangesOk, countsOk, levelsOk, trsOk, lfsOk, orderOk, headOk, versionOk, lengthOk, marksOk}
@@ -57,16 +57,16 @@ pub record Passed (b : Bounds) (s : List ℕ) (F : Form) (Q : QSet) : Type 0 whe
 pub judged : (b : Bounds) (source : ℕ) (s : List ℕ) (Q : QSet) → judgeSet b source s ≡ good Q → Passed b s (formOf s) (setOf s) × (setOf s ≡ Q)
 unfolding judgeSet
 judged b source s Q e =
-    let e₁ = need-good (headOk s) (refusal 1 source 0) _ Q e .1 in
-    let e₂ = need-good (versionOk s) (refusal 2 source 0) _ Q e₁ .1 in
-    let e₃ = need-good (rangesOk s (formOf s)) (refusal 3 source 0) _ Q e₂ in
-    let e₄ = need-good (countsOk b (formOf s)) (refusal 4 source 0) _ Q (e₃ .1) in
-    let e₅ = need-good (lengthOk s (formOf s)) (refusal 5 source 0) _ Q (e₄ .1) .1 in
-    let e₆ = need-good (marksOk s (formOf s)) (refusal 6 source 0) _ Q e₅ .1 in
-    let e₇ = need-good (levelsOk (formOf s .states) (setOf s)) (refusal 7 source 0) _ Q e₆ in
-    let e₈ = need-good (trsOk (setOf s)) (refusal 8 source 0) _ Q (e₇ .1) in
-    let e₉ = need-good (lfsOk (setOf s)) (refusal 9 source 0) _ Q (e₈ .1) in
-    let e₁₀ = need-good (orderOk (setOf s)) (refusal 10 source 0) _ Q (e₉ .1) in
+    let e₁ = need-good (headOk s) _ _ Q e .1 in
+    let e₂ = need-good (versionOk s) _ _ Q e₁ .1 in
+    let e₃ = need-good (rangesOk s (formOf s)) _ _ Q e₂ in
+    let e₄ = need-good (countsOk b (formOf s)) _ _ Q (e₃ .1) in
+    let e₅ = need-good (lengthOk s (formOf s)) _ _ Q (e₄ .1) .1 in
+    let e₆ = need-good (marksOk s (formOf s)) _ _ Q e₅ .1 in
+    let e₇ = need-good (levelsOk (formOf s .states) (setOf s)) _ _ Q e₆ in
+    let e₈ = need-good (trsOk (setOf s)) _ _ Q (e₇ .1) in
+    let e₉ = need-good (lfsOk (setOf s)) _ _ Q (e₈ .1) in
+    let e₁₀ = need-good (orderOk (setOf s)) _ _ Q (e₉ .1) in
     (record { ranges = e₃ .0; counts = e₄ .0; levels = e₇ .0; trs = e₈ .0; lfs = e₉ .0; order = e₁₀ .0 }, good-same (setOf s) Q (e₁₀ .1))
 
 module _ (b : Bounds) (s : List ℕ) (bytes : Bytes s) (p : Passed b s (formOf s) (setOf s)) where

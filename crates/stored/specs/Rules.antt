@@ -1,7 +1,7 @@
--- Document 01, "Replies" 1 to 10: each rule as a test of a set file.
+-- Document 01, "Replies" 1 to 10, and document 02, request 2: each rule as a test of a set file, and the record that breaks it.
 use mathlib.Core.Bool.{Bool, true, cond, _&&_, _||_, not}
-use mathlib.Core.List.{List, [], _∷_}
-use Prim.Native.Nat.{ℕ, suc}
+use mathlib.Core.List.{List, [], _∷_, _++_}
+use Prim.Native.Nat.{ℕ, suc, _+_}
 use lib.ListN.{length, getD}
 use lib.Dec.{eqb, ltb, leb}
 use lib.Bits.{bitAnd}
@@ -32,6 +32,24 @@ firstBad test (x ∷ xs) = cond (test x) (suc (firstBad test xs)) 0
 abbrev pub passes : {X : Type 0} → (X → Bool) → List X → Bool
 passes test xs = eqb (firstBad test xs) (length xs)
 
+-- what is wrong with the first element that has a fault; 0 where none has
+abbrev pub firstFault : {X : Type 0} → (X → ℕ) → List X → ℕ
+firstFault fault [] = 0
+firstFault fault (x ∷ xs) = cond (eqb (fault x) 0) (firstFault fault xs) (fault x)
+
+-- ---- "the record's number in the file, HD being 0"
+-- the kinds of record after HD, in the file's order
+pub data RecordKind : Type 0 where
+  ofLV : RecordKind
+  ofTR : RecordKind
+  ofLF : RecordKind
+
+-- the number of a kind's record i, from 0: n+1 LV records stand before the TR records, and all of these before the LF records
+abbrev pub recordNo : Form → RecordKind → ℕ → ℕ
+recordNo F ofLV i = 1 + i
+recordNo F ofTR i = F .n + 2 + i
+recordNo F ofLF i = F .n + 2 + F .inner + i
+
 -- 1: "set shorter than 12 bytes, or no HD"
 unfoldable pub headOk : List ℕ → Bool
 headOk s = leb hdSize (length s) && markAt 72 68 s 0
@@ -56,11 +74,25 @@ unfoldable pub lengthOk : List ℕ → Form → Bool
 lengthOk s F = eqb (length s) (fileSize F)
 
 -- 6: "a later mark is wrong": LV, TR, LF
+abbrev pub lvMarks : List ℕ → Form → List Bool
+lvMarks s F = recordsFrom (markAt 76 86 s) hdSize lvSize (levels F)
+
+abbrev pub trMarks : List ℕ → Form → List Bool
+trMarks s F = recordsFrom (markAt 84 82 s) (trsAt F) trSize (F .inner)
+
+abbrev pub lfMarks : List ℕ → Form → List Bool
+lfMarks s F = recordsFrom (markAt 76 70 s) (lfsAt F) lfSize (F .leaves)
+
+-- all of them, in the file's order
+unfoldable pub laterMarks : List ℕ → Form → List Bool
+laterMarks s F = lvMarks s F ++ (trMarks s F ++ lfMarks s F)
+
 unfoldable pub marksOk : List ℕ → Form → Bool
-marksOk s F =
-    passes (λ ok. ok) (recordsFrom (markAt 76 86 s) hdSize lvSize (levels F))
-    && (passes (λ ok. ok) (recordsFrom (markAt 84 82 s) (trsAt F) trSize (F .inner))
-    && passes (λ ok. ok) (recordsFrom (markAt 76 70 s) (lfsAt F) lfSize (F .leaves)))
+marksOk s F = passes (λ ok. ok) (laterMarks s F)
+
+-- the list begins with the first LV record
+unfoldable pub markPlace : List ℕ → Form → ℕ
+markPlace s F = recordNo F ofLV (firstBad (λ ok. ok) (laterMarks s F))
 
 -- 7: "level 1 is empty, or level counts don't sum to states"
 unfoldable pub levelsOk : ℕ → QSet → Bool
@@ -70,8 +102,8 @@ levelsOk states Q = not (eqb (roots Q) 0) && eqb (sum (Q .counts)) states
 abbrev pub levelOf : QSet → ℕ → ℕ
 levelOf Q s = levelIn 1 (Q .counts) s
 
--- 8: "TR: state not on levels 1 to n, child not on the next level, or mask zero". What is wrong with a record: 0 nothing, 1 its state,
--- 2 its left child, 3 its right child, 4 its mask.
+-- 81 to 84: "TR: state not on levels 1 to n, child not on the next level, or mask zero". What is wrong with a record: 0 nothing, 1 its state,
+-- 2 its left child, 3 its right child, 4 its mask; "at one record 81 comes before 82, 83, 84".
 unfoldable pub trFault : QSet → TR → ℕ
 trFault Q (rec s m p) =
     cond (leb (levelOf Q s) (Q .n))
@@ -85,12 +117,22 @@ trFault Q (rec s m p) =
 unfoldable pub trsOk : QSet → Bool
 trsOk Q = passes (λ t. eqb (trFault Q t) 0) (Q .inner)
 
+-- "81 state on the wrong level, 82 left child, 83 right child, 84 empty mask"; "the earliest record wins, not the smaller number"
+unfoldable pub trNumber : QSet → ℕ
+trNumber Q = 80 + firstFault (trFault Q) (Q .inner)
+
+unfoldable pub trPlace : Form → QSet → ℕ
+trPlace F Q = recordNo F ofTR (firstBad (λ t. eqb (trFault Q t) 0) (Q .inner))
+
 -- 9: "LF: state not on level n+1, mask zero, or a coefficient out of range"
 unfoldable pub lfOk : QSet → LF → Bool
 lfOk Q (rec s m x) = eqb (levelOf Q s) (suc (Q .n)) && (not (eqb m 0) && inRangeL x)
 
 unfoldable pub lfsOk : QSet → Bool
 lfsOk Q = passes (lfOk Q) (Q .leaves)
+
+unfoldable pub lfPlace : Form → QSet → ℕ
+lfPlace F Q = recordNo F ofLF (firstBad (lfOk Q) (Q .leaves))
 
 -- 10: "records of one kind out of order, or masks of one state overlap"
 module _ {X : Type 0} where
@@ -116,3 +158,7 @@ module _ {X : Type 0} where
 
 unfoldable pub orderOk : QSet → Bool
 orderOk Q = ordered (Q .inner) && ordered (Q .leaves)
+
+-- "the later of the two that clash"; TR records stand before LF records
+unfoldable pub clashPlace : Form → QSet → ℕ
+clashPlace F Q = cond (ordered (Q .inner)) (recordNo F ofLF (firstClash [] (Q .leaves))) (recordNo F ofTR (firstClash [] (Q .inner)))
