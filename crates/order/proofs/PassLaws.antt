@@ -15,9 +15,8 @@ use Rattle.automata.specs.Choice.{least}
 use Rattle.automata.specs.Sets.{Rec, rec}
 use Rattle.automata.proofs.Lists.{Each, each-map}
 use Rattle.stored.specs.Fields.{recordsFrom}
-use Rattle.stored.specs.Rules.{apart, firstBad, passes, fitsAfter, firstClash, ordered}
+use Rattle.stored.specs.Rules.{apart, firstBad, passes, fitsAfter, firstClash}
 use Rattle.stored.proofs.ScanLaws.{each-passes}
-use Rattle.stored.proofs.Reading.{records-count}
 use Rattle.records.specs.declared.Key.{Key}
 use Rattle.records.specs.Read.{bare, keyRead}
 use Rattle.records.proofs.Step.{records-step, records-end}
@@ -198,10 +197,7 @@ module _ (s : List ℕ) (at size left : ℕ) (run : Run) where
   pub unfit-end : left ≡ 0 → firstUnfit run (recordsFrom (keyRead s) at size left) ≡ 0
   unfit-end e = ap (firstUnfit run) (records-end (keyRead s) at size left e)
 
--- ---- the records of a kind are in order exactly if the pass over their states and masks comes to their count
-pub clash-ordered : {X : Type 0} (s : List ℕ) (read : ℕ → Rec X) → ((i : ℕ) → keyOf (read i) ≡ keyRead s i)
-    → (at size count : ℕ) → eqb (firstClash [] (recordsFrom (λ (i : ℕ). bare (keyRead s i)) at size count)) count ≡ ordered (recordsFrom read at size count)
-unfolding ordered
-clash-ordered s read same at size count =
-    ap (λ (n : ℕ). eqb n count) (sym (pass-clash (λ i. bare (keyRead s i)) (keyRead s) (λ i. refl) at size count) ∙ pass-clash read (keyRead s) same at size count)
-    ∙ ap (eqb (firstClash [] (recordsFrom read at size count))) (sym (records-count read at size count))
+-- ---- the first clash of a kind's records is that of their states and masks
+pub clash-is : {X : Type 0} (s : List ℕ) (read : ℕ → Rec X) → ((i : ℕ) → keyOf (read i) ≡ keyRead s i)
+    → (at size count : ℕ) → firstClash [] (recordsFrom (λ (i : ℕ). bare (keyRead s i)) at size count) ≡ firstClash [] (recordsFrom read at size count)
+clash-is s read same at size count = sym (pass-clash (λ i. bare (keyRead s i)) (keyRead s) (λ i. refl) at size count) ∙ pass-clash read (keyRead s) same at size count

@@ -1,13 +1,12 @@
 -- A scan of a file's records: the first of them decides, or the rest do. What is read may be tested at once or later. Assumes nothing.
-use mathlib.Core.Path.{_≡_, refl, sym, ap, _∙_}
+use mathlib.Core.Path.{_≡_, refl, ap, _∙_}
 use mathlib.Core.Bool.{Bool, cond}
 use mathlib.Core.List.{List}
 use Prim.Native.Nat.{ℕ, zero, suc, _+_, _-_}
 use lib.Dec.{eqb}
 use Rattle.stored.specs.Fields.{markAt, recordsFrom}
 use Rattle.stored.specs.Form.{formOf, setOf, trAt, lfAt}
-use Rattle.stored.specs.Rules.{firstBad, passes, trFault, lfOk}
-use Rattle.stored.proofs.Reading.{records-count}
+use Rattle.stored.specs.Rules.{firstBad, trFault, lfOk}
 use Rattle.records.proofs.Step.{records-step, records-end}
 use Rattle.scans.specs.declared.Ask.the-variants.{Mark, Inner, Leaf}
 use Rattle.scans.specs.Asked.{passesAt}
@@ -30,23 +29,16 @@ module _ {X : Type 0} (test : X → Bool) (read : ℕ → X) (size : ℕ) where
   tested at zero = refl
   tested at (suc count) = ap (λ (n : ℕ). cond (test (read at)) (suc n) 0) (tested (at + size) count)
 
-  -- a scan passes exactly if it comes to the count
-  pub scan-passes : (at count : ℕ)
-      → eqb (firstBad (λ ok. ok) (recordsFrom (λ (i : ℕ). test (read i)) at size count)) count ≡ passes test (recordsFrom read at size count)
-  scan-passes at count =
-      ap (λ (n : ℕ). eqb n count) (tested at count)
-      ∙ ap (λ (n : ℕ). eqb (firstBad test (recordsFrom read at size count)) n) (sym (records-count read at size count))
-
 -- ---- each kind of question, as its rule puts it
 module _ (s : List ℕ) (at size count : ℕ) where
-  pub mark-scan : (a b : ℕ) → eqb (firstBad (λ ok. ok) (recordsFrom (passesAt (Mark a b) s) at size count)) count ≡ passes (λ ok. ok) (recordsFrom (markAt a b s) at size count)
+  pub mark-scan : (a b : ℕ) → firstBad (λ ok. ok) (recordsFrom (passesAt (Mark a b) s) at size count) ≡ firstBad (λ ok. ok) (recordsFrom (markAt a b s) at size count)
   unfolding passesAt
-  mark-scan a b = scan-passes (λ ok. ok) (markAt a b s) size at count
+  mark-scan a b = refl
 
-  pub tr-scan : eqb (firstBad (λ ok. ok) (recordsFrom (passesAt Inner s) at size count)) count ≡ passes (λ t. eqb (trFault (setOf s) t) 0) (recordsFrom (trAt s) at size count)
+  pub tr-scan : firstBad (λ ok. ok) (recordsFrom (passesAt Inner s) at size count) ≡ firstBad (λ t. eqb (trFault (setOf s) t) 0) (recordsFrom (trAt s) at size count)
   unfolding passesAt
-  tr-scan = scan-passes (λ t. eqb (trFault (setOf s) t) 0) (trAt s) size at count
+  tr-scan = tested (λ t. eqb (trFault (setOf s) t) 0) (trAt s) size at count
 
-  pub lf-scan : eqb (firstBad (λ ok. ok) (recordsFrom (passesAt Leaf s) at size count)) count ≡ passes (lfOk (setOf s)) (recordsFrom (lfAt (formOf s .k) s) at size count)
+  pub lf-scan : firstBad (λ ok. ok) (recordsFrom (passesAt Leaf s) at size count) ≡ firstBad (lfOk (setOf s)) (recordsFrom (lfAt (formOf s .k) s) at size count)
   unfolding passesAt
-  lf-scan = scan-passes (lfOk (setOf s)) (lfAt (formOf s .k) s) size at count
+  lf-scan = tested (lfOk (setOf s)) (lfAt (formOf s .k) s) size at count

@@ -1,9 +1,13 @@
--- Document 01, "Replies" 1 to 10, by number: "The smaller number wins within a file."
+-- Document 01, "Replies" 1 to 10, and document 02, request 2, by number and place: "The smaller number wins within a file", but that "81 to 84 stand
+-- together where 8 stood, before 9".
 use mathlib.Core.Bool.{Bool, cond}
 use mathlib.Core.List.{List}
 use Prim.Native.Nat.{ℕ, _+_}
-use Rattle.stored.specs.Form.{formOf, setOf}
-use Rattle.stored.specs.Rules.{Bounds, headOk, versionOk, rangesOk, countsOk, lengthOk, marksOk, levelsOk, trsOk, lfsOk, orderOk}
+use lib.Dec.{eqb}
+use Rattle.automata.specs.Sets.{QSet}
+use Rattle.stored.specs.Form.{Form, formOf, setOf}
+use Rattle.stored.specs.Rules.{Bounds, headOk, versionOk, rangesOk, countsOk, lengthOk, marksOk, markPlace, levelsOk, trsOk, trNumber, trPlace, lfsOk, lfPlace, orderOk, clashPlace}
+use Rattle.setfile.specs.declared.Broken.{Broken}
 
 -- five rules in a row, the first of them numbered k: the number of the first that is broken, or 0
 unfoldable pub firstBroken : ℕ → Bool → Bool → Bool → Bool → Bool → ℕ
@@ -13,9 +17,35 @@ firstBroken k a b c d e = cond a (cond b (cond c (cond d (cond e 0 (k + 4)) (k +
 unfoldable pub headBroken : Bounds → List ℕ → ℕ
 headBroken b s = let F = formOf s in firstBroken 1 (headOk s) (versionOk s) (rangesOk s F) (countsOk b F) (lengthOk s F)
 
--- 6 to 10 look at all records
-unfoldable pub bodyBroken : List ℕ → ℕ
+-- ---- the later rules name a record
+abbrev pub brokenAt : ℕ → ℕ → Broken
+brokenAt number place = record { number = number; place = place }
+
+-- nothing where the rule is kept
+abbrev pub unless : Bool → Broken → Broken
+unless kept broken = cond kept (brokenAt 0 0) broken
+
+-- the first of two that is broken
+abbrev pub orElse : Broken → Broken → Broken
+orElse broken rest = cond (eqb (broken .number) 0) rest broken
+
+unfoldable pub marksBroken : List ℕ → Broken
+marksBroken s = let F = formOf s in unless (marksOk s F) (brokenAt 6 (markPlace s F))
+
+unfoldable pub trsBroken : Form → QSet → Broken
+trsBroken F Q = unless (trsOk Q) (brokenAt (trNumber Q) (trPlace F Q))
+
+unfoldable pub lfsBroken : Form → QSet → Broken
+lfsBroken F Q = unless (lfsOk Q) (brokenAt 9 (lfPlace F Q))
+
+unfoldable pub orderBroken : Form → QSet → Broken
+orderBroken F Q = unless (orderOk Q) (brokenAt 10 (clashPlace F Q))
+
+unfoldable pub recordsBroken : Form → QSet → Broken
+recordsBroken F Q = orElse (trsBroken F Q) (orElse (lfsBroken F Q) (orderBroken F Q))
+
+unfoldable pub bodyBroken : List ℕ → Broken
 bodyBroken s =
     let F = formOf s in
     let Q = setOf s in
-    firstBroken 6 (marksOk s F) (levelsOk (F .states) Q) (trsOk Q) (lfsOk Q) (orderOk Q)
+    orElse (marksBroken s) (orElse (unless (levelsOk (F .states) Q) (brokenAt 7 0)) (recordsBroken F Q))

@@ -1,5 +1,7 @@
-// Document 01, "Stored form" and replies 1 to 10: the set file's public job. It takes any slice of bytes, and answers the header of the set that
-// the bytes hold, or the refusal with the smallest number. The bounds on the counts are the caller's.
+// Document 01, "Stored form" and replies 1 to 10, and document 02, request 2: the set file's public job. It takes any slice of bytes, and answers the
+// header of the set that the bytes hold, or the refusal by the first rule that is broken, with the record that breaks it. The bounds on the counts
+// are the caller's.
+use faults::tr_fault;
 use fields::mark_at;
 use fields::u16_at;
 use levels::levels_ok;
@@ -15,11 +17,12 @@ ghost use mathlib.Core.Path.{_≡_};
 ghost use mathlib.Core.Bool.{cond};
 ghost use Prim.Native.Nat.{_+_, _≤_, _<_};
 ghost use lib.ListN.{length};
+ghost use lib.Dec.{eqb};
 ghost use Rattle.stored.specs.Form.{formOf, setOf, hdSize, trsAt, lfsAt, fileSize};
-ghost use Rattle.stored.specs.Rules.{rangesOk, countsOk, marksOk, trsOk, lfsOk, orderOk};
+ghost use Rattle.stored.specs.Rules.{rangesOk, countsOk, firstBad, laterMarks, ofTR, ofLF, recordNo};
 ghost use Rattle.stored.specs.Judge.{judgeSet};
 ghost use Rattle.setfile.specs.Answer.{boundsOf, formIn, formRead, Whole, answerOf};
-ghost use Rattle.setfile.specs.Broken.{firstBroken, headBroken, bodyBroken};
+ghost use Rattle.setfile.specs.Broken.{firstBroken, headBroken, unless, orElse, brokenAt, marksBroken, trsBroken, lfsBroken, orderBroken, recordsBroken, bodyBroken};
 
 // "n qubits, 1 to 20".
 pub const N_MOST: u8 = 20;
@@ -41,6 +44,12 @@ pub struct Bounds {
     pub states: u16,
     pub inner: u16,
     pub leaves: u16,
+}
+
+// A rule that is broken, and the number of the record that breaks it or 0; the rule's number is 0 where none is.
+pub struct Broken {
+    pub number: u8,
+    pub place: u32,
 }
 
 // A set that is taken, with what its HD says, or a refusal.
@@ -105,10 +114,61 @@ fn counts_ok(bounds: Bounds, form: Form) -> bool
     (form.states <= bounds.states) & ((form.inner <= bounds.inner) & (form.leaves <= bounds.leaves))
 }
 
-// Rule 6: every mark after HD's is right, LV, TR or LF by its place.
-fn marks_ok(s: &[u8], form: Form) -> bool
+// "the record's number in the file, HD being 0": that of a TR record, which n + 1 LV records stand before.
+fn tr_number(form: Form, i: usize) -> u32
+    requires { ⌜ i < 65536 ⌝ }
+    ensures { λ r. ⌜ r ≡ recordNo (formIn form) ofTR i ⌝ }
+{
+    form.n as u32 + 2 + i as u32
+}
+
+// That of an LF record, which all TR records stand before.
+fn lf_number(form: Form, i: usize) -> u32
+    requires { ⌜ i < 65536 ⌝ }
+    ensures { λ r. ⌜ r ≡ recordNo (formIn form) ofLF i ⌝ }
+{
+    form.n as u32 + 2 + form.inner as u32 + i as u32
+}
+
+// Nothing where the rule is kept, else the rule and the record that breaks it.
+fn unless_kept(kept: bool, number: u8, place: u32) -> Broken
+    ensures { λ r. ⌜ r ≡ unless kept (brokenAt number place) ⌝ }
+{
+    if kept {
+        return Broken {
+            number: 0,
+            place: 0,
+        };
+    }
+    Broken { number, place }
+}
+
+// The first of two rules that is broken.
+fn or_else(broken: Broken, rest: Broken) -> Broken
+    ensures { λ r. ⌜ r ≡ orElse broken rest ⌝ }
+{
+    let number = broken.number;
+    if number == 0 {
+        return rest;
+    }
+    broken
+}
+
+// A scan of one list that runs on into the next where it found nothing.
+fn run_on(found: usize, count: usize, next: usize) -> usize
+    requires { ⌜ count + next < 4294967296 ⌝ }
+    ensures { λ r. ⌜ r ≡ cond (eqb found count) (count + next) found ⌝ }
+{
+    if found == count {
+        return count + next;
+    }
+    found
+}
+
+// Rule 6: the number of the first wrong mark among those after HD's, LV, TR or LF by its place; their count where all are right.
+fn first_mark(s: &[u8], form: Form) -> usize
     requires { ⌜ Whole (now s) form ⌝ }
-    ensures { λ r. ⌜ r ≡ marksOk (now (s .entry)) (formOf (now (s .entry))) ⌝ }
+    ensures { λ r. ⌜ r ≡ firstBad (λ ok. ok) (laterMarks (now (s .entry)) (formOf (now (s .entry)))) ⌝ }
 {
     let n = form.n;
     let levels = n as usize + 1;
@@ -117,41 +177,64 @@ fn marks_ok(s: &[u8], form: Form) -> bool
     let lv = first_bad(s, n, Ask::Mark(b'L', b'V'), HD_SIZE, LV_SIZE, levels);
     let tr = first_bad(s, n, Ask::Mark(b'T', b'R'), trs_at(form), TR_SIZE, inner);
     let lf = first_bad(s, n, Ask::Mark(b'L', b'F'), lfs_at(form), LF_SIZE, leaves);
-    (lv == levels) & ((tr == inner) & (lf == leaves))
+    run_on(lv, levels, run_on(tr, inner, lf))
 }
 
-// Rule 8 of every TR record.
-fn trs_ok(s: &[u8], form: Form) -> bool
+// Rule 6 of the file: the marks begin with record 1.
+fn marks_broken(s: &[u8], form: Form) -> Broken
     requires { ⌜ Whole (now s) form ⌝ }
-    ensures { λ r. ⌜ r ≡ trsOk (setOf (now (s .entry))) ⌝ }
+    ensures { λ r. ⌜ r ≡ marksBroken (now (s .entry)) ⌝ }
+{
+    let marks = form.n as usize + 1 + form.inner as usize + form.leaves as usize;
+    let first = first_mark(s, form);
+    unless_kept(first == marks, 6, first as u32 + 1)
+}
+
+// Rules 81 to 84: the first TR record at fault, and what is wrong with it.
+fn trs_broken(s: &[u8], form: Form) -> Broken
+    requires { ⌜ Whole (now s) form ⌝ }
+    ensures { λ r. ⌜ r ≡ trsBroken (formOf (now (s .entry))) (setOf (now (s .entry))) ⌝ }
 {
     let count = form.inner as usize;
-    first_bad(s, form.n, Ask::Inner, trs_at(form), TR_SIZE, count) == count
+    let at = trs_at(form);
+    let first = first_bad(s, form.n, Ask::Inner, at, TR_SIZE, count);
+    if first == count {
+        return Broken {
+            number: 0,
+            place: 0,
+        };
+    }
+    let fault = tr_fault(s, form.n, at + TR_SIZE * first);
+    let number = 80 + fault;
+    let place = tr_number(form, first);
+    Broken { number, place }
 }
 
-// Rule 9 of every LF record.
-fn lfs_ok(s: &[u8], form: Form) -> bool
+// Rule 9: the first LF record that breaks it.
+fn lfs_broken(s: &[u8], form: Form) -> Broken
     requires { ⌜ Whole (now s) form ⌝ }
-    ensures { λ r. ⌜ r ≡ lfsOk (setOf (now (s .entry))) ⌝ }
+    ensures { λ r. ⌜ r ≡ lfsBroken (formOf (now (s .entry))) (setOf (now (s .entry))) ⌝ }
 {
     let count = form.leaves as usize;
-    first_bad(s, form.n, Ask::Leaf, lfs_at(form), LF_SIZE, count) == count
+    let first = first_bad(s, form.n, Ask::Leaf, lfs_at(form), LF_SIZE, count);
+    unless_kept(first == count, 9, lf_number(form, first))
 }
 
-// Rule 10: the TR records are in order and share no choice within a state, and so are the LF records.
-fn order_ok(s: &[u8], form: Form) -> bool
+// Rule 10: the first TR record that clashes with an earlier one, or else the first LF record that does.
+fn order_broken(s: &[u8], form: Form) -> Broken
     requires { ⌜ Whole (now s) form ⌝ }
-    ensures { λ r. ⌜ r ≡ orderOk (setOf (now (s .entry))) ⌝ }
+    ensures { λ r. ⌜ r ≡ orderBroken (formOf (now (s .entry))) (setOf (now (s .entry))) ⌝ }
 {
     let inner = form.inner as usize;
     let leaves = form.leaves as usize;
     let tr = first_clash(s, trs_at(form), TR_SIZE, inner);
     let lf = first_clash(s, lfs_at(form), LF_SIZE, leaves);
-    (tr == inner) & (lf == leaves)
+    let of_lf = unless_kept(lf == leaves, 10, lf_number(form, lf));
+    or_else(unless_kept(tr == inner, 10, tr_number(form, tr)), of_lf)
 }
 
 // The number of a rule that is broken; what the rest says of one that is kept.
-fn unless_kept(kept: bool, number: u8, rest: u8) -> u8
+fn number_unless(kept: bool, number: u8, rest: u8) -> u8
     ensures { λ r. ⌜ r ≡ cond kept rest number ⌝ }
 {
     if kept {
@@ -165,11 +248,11 @@ fn first_broken(first: u8, a: bool, b: bool, c: bool, d: bool, e: bool) -> u8
     requires { ⌜ first < 250 ⌝ }
     ensures { λ r. ⌜ r ≡ firstBroken first a b c d e ⌝ }
 {
-    let from_e = unless_kept(e, first + 4, 0);
-    let from_d = unless_kept(d, first + 3, from_e);
-    let from_c = unless_kept(c, first + 2, from_d);
-    let from_b = unless_kept(b, first + 1, from_c);
-    unless_kept(a, first, from_b)
+    let from_e = number_unless(e, first + 4, 0);
+    let from_d = number_unless(d, first + 3, from_e);
+    let from_c = number_unless(c, first + 2, from_d);
+    let from_b = number_unless(b, first + 1, from_c);
+    number_unless(a, first, from_b)
 }
 
 // The first of rules 1 to 5 that a file with room for HD breaks, or 0.
@@ -196,43 +279,52 @@ fn head_broken(s: &[u8], bounds: Bounds) -> u8
     long_head(s, bounds)
 }
 
-// The first of rules 6 to 10 that a whole file breaks, or 0.
-fn body_broken(s: &[u8], form: Form) -> u8
+// "81 to 84 stand together where 8 stood, before 9": the first rule that the TR and LF records break, then 10.
+fn records_broken(s: &[u8], form: Form) -> Broken
+    requires { ⌜ Whole (now s) form ⌝ }
+    ensures { λ r. ⌜ r ≡ recordsBroken (formOf (now (s .entry))) (setOf (now (s .entry))) ⌝ }
+{
+    let trs = trs_broken(s, form);
+    let lfs = lfs_broken(s, form);
+    let order = order_broken(s, form);
+    or_else(trs, or_else(lfs, order))
+}
+
+// The first of the rules from 6 on that a whole file breaks.
+fn body_broken(s: &[u8], form: Form) -> Broken
     requires { ⌜ Whole (now s) form ⌝ }
     ensures { λ r. ⌜ r ≡ bodyBroken (now (s .entry)) ⌝ }
 {
-    let marks = marks_ok(s, form);
-    let levels = levels_ok(s, form.n, form.states);
-    let trs = trs_ok(s, form);
-    let lfs = lfs_ok(s, form);
-    let order = order_ok(s, form);
-    first_broken(6, marks, levels, trs, lfs, order)
+    let marks = marks_broken(s, form);
+    let levels = unless_kept(levels_ok(s, form.n, form.states), 7, 0);
+    let records = records_broken(s, form);
+    or_else(marks, or_else(levels, records))
 }
 
-// A refusal of a set file has place 0.
-fn refused(number: u8, source: u8) -> SetAnswer
-    ensures { λ r. ⌜ r ≡ SetAnswer.Bad (record { number = number; source = source; place = 0 }) ⌝ }
+fn refused(number: u8, source: u8, place: u32) -> SetAnswer
+    ensures { λ r. ⌜ r ≡ SetAnswer.Bad (record { number = number; source = source; place = place }) ⌝ }
 {
     SetAnswer::Bad(Refusal {
         number,
         source,
-        place: 0,
+        place,
     })
 }
 
-// The reply to a set file of any length: the header of a set that is taken, or the refusal whose number is the smallest over the whole file, with
-// the source that the caller names.
+// The reply to a set file of any length: the header of a set that is taken, or the refusal by the first rule that the file breaks, with the source
+// that the caller names and the number of the record; rules 1 to 5 and 7 speak of no record and have place 0.
 pub fn read_set(file: &[u8], bounds: Bounds, source: u8) -> SetAnswer
     ensures { λ r. ⌜ r ≡ answerOf (judgeSet (boundsOf bounds) source (now (file .entry))) (formRead (now (file .entry))) ⌝ }
 {
     let head = head_broken(file, bounds);
     if head != 0 {
-        return refused(head, source);
+        return refused(head, source, 0);
     }
     let form = form_at(file);
     let body = body_broken(file, form);
-    if body != 0 {
-        return refused(body, source);
+    let number = body.number;
+    if number != 0 {
+        return refused(number, source, body.place);
     }
     SetAnswer::Good(form)
 }

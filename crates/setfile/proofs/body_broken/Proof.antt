@@ -1,4 +1,4 @@
--- Each test is its rule's, of the set that the bytes hold. Assumes nothing.
+-- Each part is its rules', of the set that the bytes hold. Assumes nothing.
 use mathlib.Core.Path.{ap, _∙_}
 use denote.Ref.{now}
 use borrow.Author.Needs.{needs}
@@ -9,27 +9,19 @@ use Rattle.setfile.proofs.body_broken.Statement.{statement}
 use Rattle.setfile.proofs.body_broken.Tie as tie
 
 levels-ok-requires : tie.Need-levels-ok-requires
-levels-ok-requires c κs =
-    let k = c .before .before in
-    levelled (now (k .args .s)) (k .args .form) (k .pre)
+levels-ok-requires c κs = levelled (now (c .before .before .args .s)) (c .before .before .args .form) (c .before .before .pre)
 
 returns : tie.Need-returns
 unfolding bodyBroken
 returns c =
-    let order = c .before in
-    let lfs = order .before in
-    let trs = lfs .before in
-    let levels = trs .before in
-    let marks = levels .before in
-    let k = marks .before .before in
-    c .first-broken .ensures
+    c .or-else2 .ensures
     ∙ simp (
-      order .order-ok .ensures,
-      lfs .lfs-ok .ensures,
-      trs .trs-ok .ensures,
-      levels .levels-ok .ensures,
-      marks .marks-ok .ensures,
-      ap (λ (F : stored.Form). F .states) (k .pre .is),
+      c .before .or-else .ensures,
+      c .before .before .records-broken .ensures,
+      c .before .before .before .unless-kept .ensures,
+      c .before .before .before .before .levels-ok .ensures,
+      c .before .before .before .before .before .marks-broken .ensures,
+      ap (λ (F : stored.Form). F .states) (c .before .before .before .before .before .before .before .pre .is),
     )
 
 pub body-broken-spec : {M : Type 1} → statement M

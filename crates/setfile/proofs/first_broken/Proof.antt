@@ -9,7 +9,7 @@ unfolding firstBroken
 returns c =
     let b = c .before in
     let d = b .before .before in
-    simp (c .unless-kept5 .ensures, b .unless-kept4 .ensures, b .before .unless-kept3 .ensures, d .unless-kept2 .ensures, d .before .unless-kept .ensures)
+    simp (c .number-unless5 .ensures, b .number-unless4 .ensures, b .before .number-unless3 .ensures, d .number-unless2 .ensures, d .before .number-unless .ensures)
 
 pub first-broken-spec : {M : Type 1} → statement M
 first-broken-spec = tie.close (tie.spec (λ c. search needs) (λ c κs. search needs) (λ c. search needs) (λ c κs. search needs) (λ c. search needs) (λ c κs. search needs) (λ c. search needs) (λ c κs. search needs) (λ c κs. search needs) returns)

@@ -1,10 +1,11 @@
--- The first rule broken gives the refusal; a file that breaks none of 1 to 5 is whole, so that 6 to 10 may be tested. Assumes nothing.
+-- The first rule broken gives the refusal; a file that breaks none of 1 to 5 is whole, so that the later ones may be tested. Assumes nothing.
 use mathlib.Core.Path.{sym, ap, subst, _∙_}
 use Prim.Native.Nat.{ℕ}
 use denote.Ref.{now}
 use borrow.Author.Needs.{needs}
 use Rattle.stored.specs.Refusal.{refusal}
 use Rattle.refusals.specs.Refused.{refusedBy}
+use Rattle.setfile.specs.declared.Broken.{Broken}
 use Rattle.setfile.specs.declared.SetAnswer.the-variants.{Bad}
 use Rattle.setfile.specs.Answer.{boundsOf, formRead, Whole}
 use Rattle.setfile.proofs.AnswerLaws.{head-refused, body-refused, none-refused, long, whole}
@@ -35,24 +36,21 @@ body-broken-requires c κs =
 returns-2 : tie.Need-returns-2
 returns-2 c =
     let b = c .before .before .body-broken in
-    let first = c .before .before .before .before in
-    let h = first .before .head-broken in
-    let a = first .before .before .before .args in
+    let h = c .before .before .before .before .before .head-broken in
+    let a = c .before .before .before .before .before .before .before .args in
     let s = now (a .file) in
     c .refused2 .ensures
-    ∙ ap (λ (n : ℕ). Bad (refusedBy (refusal n (a .source) 0))) (b .ensures)
-    ∙ body-refused (boundsOf (a .bounds)) (a .source) s (formRead s) (sym (h .ensures) ∙ first .if1 .left) (λ z. c .before .if2 .taken (b .ensures ∙ z))
+    ∙ ap (λ (x : Broken). Bad (refusedBy (refusal (x .number) (a .source) (x .place)))) (b .ensures)
+    ∙ body-refused (boundsOf (a .bounds)) (a .source) s (formRead s) (sym (h .ensures) ∙ c .before .before .before .before .if1 .left) (λ z. c .before .if2 .taken (ap (λ (x : Broken). x .number) (b .ensures) ∙ z))
 
 returns-3 : tie.Need-returns-3
 returns-3 c =
     let b = c .before .body-broken in
-    let form = c .before .before in
-    let first = form .before in
-    let h = first .before .head-broken in
-    let a = first .before .before .before .args in
+    let h = c .before .before .before .before .head-broken in
+    let a = c .before .before .before .before .before .before .args in
     let s = now (a .file) in
-    simp (form .form-at .ensures)
-    (none-refused (boundsOf (a .bounds)) (a .source) s (formRead s) (sym (h .ensures) ∙ first .if1 .left) (sym (b .ensures) ∙ c .if2 .left))
+    simp (c .before .before .form-at .ensures)
+    (none-refused (boundsOf (a .bounds)) (a .source) s (formRead s) (sym (h .ensures) ∙ c .before .before .before .if1 .left) (sym (ap (λ (x : Broken). x .number) (b .ensures)) ∙ c .if2 .left))
 
 pub read-set-spec : {M : Type 1} → statement M
 read-set-spec = tie.close (tie.spec (λ c κs. search needs) (λ c κs. search needs) returns form-at-requires body-broken-requires (λ c κs. search needs) returns-2 returns-3)
