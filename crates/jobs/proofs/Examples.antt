@@ -15,7 +15,7 @@ use Rattle.automata.specs.Members.{Member, member, members}
 use Rattle.stored.specs.Refusal.{Judged}
 use Rattle.stored.specs.Fields.{u16At, u32At, i32At, markAt, recordsFrom, bytes32}
 use Rattle.stored.specs.Form.{formOf, countAt, trAt, lfAt, setOf}
-use Rattle.stored.specs.Rules.{setBounds, headOk, versionOk, rangesOk, countsOk, lengthOk, marksOk, levelsOk, trFault, trsOk, lfOk, lfsOk, ordered, orderOk}
+use Rattle.stored.specs.Rules.{setBounds, headOk, versionOk, rangesOk, countsOk, lengthOk, laterMarks, marksOk, levelsOk, trFault, trsOk, lfOk, lfsOk, ordered, orderOk, clashPlace}
 use Rattle.stored.specs.Judge.{judgeSet}
 use Rattle.stored.specs.Pack.{fileOf}
 use Rattle.gates.specs.Gate.{phase, flip, H, Gate, plain, controlled}
@@ -114,6 +114,10 @@ abbrev judgedNumber : {X : Type 0} → Judged X → ℕ
 judgedNumber (Judged.refused r) = r .number
 judgedNumber (Judged.good x) = 0
 
+abbrev judgedPlace : {X : Type 0} → Judged X → ℕ
+judgedPlace (Judged.refused r) = r .place
+judgedPlace (Judged.good x) = 0
+
 pub record Example : Type 0 where
   pub got : Shown
   pub want : Shown
@@ -167,8 +171,10 @@ table =
     -- 12. masks 1 and 2 on one state pass; 1 and 3 give 10
     ∷ shows (number (ofFile (twice 1 2))) (number 0)
     ∷ shows (number (ofFile (twice 1 3))) (number 10)
+    -- document 02, request 2: the later of the two, record 4 after HD, two LV and one TR
+    ∷ shows (number (judgedPlace (judgeSet setBounds 1 (fileOf (twice 1 3))))) (number 4)
     ∷ []
 
 pub worked-examples : map (λ x. x .got) table ≡ map (λ x. x .want) table
-unfolding fileOf built judgeSet formOf setOf u16At u32At i32At markAt recordsFrom countAt trAt lfAt headOk versionOk rangesOk countsOk lengthOk marksOk levelsOk trFault trsOk lfOk lfsOk ordered orderOk trailingZeros gateAt recordsOf judgeGates judgeCircuit judgeOne judgeGate afterGates newSet judgeBy judgeCheck inputOk programReply line printed verdict
+unfolding fileOf built judgeSet formOf setOf u16At u32At i32At markAt recordsFrom countAt trAt lfAt headOk versionOk rangesOk countsOk lengthOk laterMarks marksOk levelsOk trFault trsOk lfOk lfsOk ordered orderOk clashPlace trailingZeros gateAt recordsOf judgeGates judgeCircuit judgeOne judgeGate afterGates newSet judgeBy judgeCheck inputOk programReply line printed verdict
 worked-examples = refl
