@@ -1,4 +1,4 @@
-"""Set files and circuits by document 01, written apart from the checker: reading, refusals 1 to 12, and writing."""
+"""Set files and circuits by documents 01 and 02, written apart from the checker: reading, refusals 1 to 12 with their places, and writing."""
 import struct
 from dataclasses import dataclass
 
@@ -29,65 +29,71 @@ def file_of(s):
 
 
 def clash(records):
-    """Some two records are out of order, or share a choice within one state."""
-    keys = [(r[0], least(r[1])) for r in records]
-    if any(a >= b for a, b in zip(keys, keys[1:])):
-        return True
-    by_state = {}
-    for r in records:
-        if by_state.get(r[0], 0) & r[1]:
-            return True
-        by_state[r[0]] = by_state.get(r[0], 0) | r[1]
-    return False
+    """The number of the first record that is out of order, or shares a choice with an earlier one of its state; None where there is none."""
+    last, used = (-1, -1), {}
+    for number, (q, m, *_) in records:
+        if (q, least(m)) <= last or used.get(q, 0) & m:
+            return number
+        last = q, least(m)
+        used[q] = used.get(q, 0) | m
+    return None
+
+
+def fault_of_tr(on, n, q, m, left, right):
+    """81 to 84, or 0."""
+    if on(q) is None or on(q) > n:
+        return 81
+    if on(left) != on(q) + 1:
+        return 82
+    if on(right) != on(q) + 1:
+        return 83
+    return 0 if m else 84
 
 
 def read_set(b, bounds=BOUNDS):
-    """The set, or the number of its refusal."""
+    """The set, or (number, place) of its refusal: the place is the record's number in the file, HD being 0, for 6, 81 to 84, 9 and 10, else 0."""
     if len(b) < 12 or b[:2] != b"HD":
-        return 1
+        return 1, 0
     version, n, k, zero, states, inner, leaves = struct.unpack("<4B3H", b[2:12])
     if version != 1:
-        return 2
+        return 2, 0
     if not 1 <= n <= 20 or k > 64 or zero:
-        return 3
+        return 3, 0
     if states > bounds[0] or inner > bounds[1] or leaves > bounds[2]:
-        return 4
+        return 4, 0
     if len(b) != 12 + 4 * (n + 1) + 12 * inner + 24 * leaves:
-        return 5
-    at = 12
+        return 5, 0
+    # the file from the front, record by record, each with its number
     lv, tr, lf = [], [], []
-    marks = True
-    for _ in range(n + 1):
-        marks &= b[at:at + 2] == b"LV"
-        lv.append(struct.unpack_from("<H", b, at + 2)[0])
-        at += 4
-    for _ in range(inner):
-        marks &= b[at:at + 2] == b"TR"
-        tr.append(struct.unpack_from("<HIHH", b, at + 2))
-        at += 12
-    for _ in range(leaves):
-        marks &= b[at:at + 2] == b"LF"
-        q, m, *x = struct.unpack_from("<HI4i", b, at + 2)
-        lf.append((q, m, tuple(x)))
-        at += 24
-    if not marks:
-        return 6
-    if lv[0] == 0 or sum(lv) != states:
-        return 7
-    level = [i for i, c in enumerate(lv, 1) for _ in range(c)]
+    at, number, wrong = 12, 0, None
+    for mark, form, count, records in ((b"LV", "<H", n + 1, lv), (b"TR", "<HIHH", inner, tr), (b"LF", "<HI4i", leaves, lf)):
+        for _ in range(count):
+            number += 1
+            if wrong is None and b[at:at + 2] != mark:
+                wrong = number
+            records.append((number, struct.unpack_from(form, b, at + 2)))
+            at += 2 + struct.calcsize(form)
+    if wrong is not None:
+        return 6, wrong
+    counts = [r[0] for _, r in lv]
+    if counts[0] == 0 or sum(counts) != states:
+        return 7, 0
+    level = [i for i, c in enumerate(counts, 1) for _ in range(c)]
 
     def on(q):
         return level[q] if q < states else None
 
-    for q, m, l, r in tr:
-        if on(q) is None or on(q) > n or on(l) != on(q) + 1 or on(r) != on(q) + 1 or m == 0:
-            return 8
-    for q, m, x in lf:
+    for number, r in tr:
+        fault = fault_of_tr(on, n, *r)
+        if fault:
+            return fault, number
+    for number, (q, m, *x) in lf:
         if on(q) != n + 1 or m == 0 or any(abs(v) > RANGE for v in x):
-            return 9
-    if clash(tr) or clash(lf):
-        return 10
-    return Set(n, k, tuple(lv), tuple(tr), tuple(lf))
+            return 9, number
+    for records in (tr, lf):
+        if clash(records) is not None:
+            return 10, clash(records)
+    return Set(n, k, tuple(counts), tuple(r for _, r in tr), tuple((q, m, tuple(x)) for _, (q, m, *x) in lf))
 
 
 def read_circuit(b, n, one=False):

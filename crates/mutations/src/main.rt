@@ -1,24 +1,24 @@
-// Reads each set file that its arguments name, cut at every byte, and then with each single bit of it flipped, and prints one sign for each: 0 for
-// a set that is taken, else the refusal's number, A for 10. One line for the cuts, then one for each of a byte's eight bits.
+// Reads each set file that its arguments name, cut at every byte, and then with each single bit of it flipped, and prints for each the refusal's
+// number and place as number@place, 0@0 for a set that is taken. One line for the cuts, then one for each of a byte's eight bits.
 use libc::STDOUT_FILENO;
+use refusals::Refusal;
 use setfile::Bounds;
 use setfile::SetAnswer;
 
-// The sign of a number from 0 to 10.
-fn sign(n: u8) -> u8 {
-    if n < 10 { 48 + n } else { 65 }
-}
-
-// The sign of a set file.
-fn judged(file: &[u8]) -> u8 {
+// The refusal of a set file; its number is 0 where it is taken.
+fn judged(file: &[u8]) -> Refusal {
     let bounds = Bounds {
         states: 1024,
         inner: 2048,
         leaves: 1024,
     };
     match setfile::read_set(file, bounds, 1) {
-        SetAnswer::Good(_) => sign(0),
-        SetAnswer::Bad(r) => sign(r.number),
+        SetAnswer::Good(_) => Refusal {
+            number: 0,
+            source: 1,
+            place: 0,
+        },
+        SetAnswer::Bad(r) => r,
     }
 }
 
@@ -27,21 +27,29 @@ fn put(c: u8) {
     io::write_all(STDOUT_FILENO, &one);
 }
 
-// The sign of the first n bytes.
-fn judged_front(bytes: [u8; 4096], n: usize) -> u8 {
-    if 4096 < n {
-        return 0;
+fn show(r: Refusal) {
+    io::print_decimal(STDOUT_FILENO, r.number as u64);
+    put(64);
+    io::print_decimal(STDOUT_FILENO, r.place as u64);
+}
+
+// What is said of the first n bytes, after a space if it is not the first of its line.
+fn show_front(i: usize, bytes: [u8; 4096], n: usize) {
+    if i != 0 {
+        put(32);
     }
-    let front = io::count(n as isize, &bytes);
-    judged(&bytes[..front])
+    if n <= 4096 {
+        let front = io::count(n as isize, &bytes);
+        show(judged(&bytes[..front]));
+    }
 }
 
 // Every cut of the first n bytes.
 fn cuts(bytes: [u8; 4096], n: usize) {
     for i in 0..n {
-        put(judged_front(bytes, i));
+        show_front(i, bytes, i);
     }
-    put(judged_front(bytes, n));
+    show_front(n, bytes, n);
     put(10);
 }
 
@@ -54,17 +62,17 @@ fn with_bit(x: u8, bit: u8) -> u8 {
 }
 
 // The first n bytes with one bit of byte i changed.
-fn flipped(bytes: [u8; 4096], n: usize, i: usize, bit: u8) -> u8 {
+fn flipped(bytes: [u8; 4096], n: usize, i: usize, bit: u8) {
     let mut changed = bytes;
     if i < 4096 {
         changed[i] = with_bit(bytes[i], bit);
     }
-    judged_front(changed, n)
+    show_front(i, changed, n);
 }
 
 fn flips(bytes: [u8; 4096], n: usize, bit: u8) {
     for i in 0..n {
-        put(flipped(bytes, n, i, bit));
+        flipped(bytes, n, i, bit);
     }
     put(10);
 }
