@@ -18,14 +18,14 @@ Answer = namedtuple("Answer", "kind number source place count root word", defaul
 def ready(start, circuit, end):
     """The start set, the gates and the end set, or the refusal: start set, circuit, end set, 13, then gate by gate."""
     s = read_set(start)
-    if isinstance(s, int):
-        return Answer(REFUSED, s, 1)
+    if isinstance(s, tuple):
+        return Answer(REFUSED, s[0], 1, s[1])
     gates = read_circuit(circuit, s.n)
     if isinstance(gates, tuple):
         return Answer(REFUSED, gates[0], 2, gates[1])
     e = read_set(end, END_BOUNDS)
-    if isinstance(e, int):
-        return Answer(REFUSED, e, 3)
+    if isinstance(e, tuple):
+        return Answer(REFUSED, e[0], 3, e[1])
     if e.n != s.n:
         return Answer(REFUSED, 13)
     image = s

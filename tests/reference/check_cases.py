@@ -16,6 +16,7 @@ import check_refused
 import errors
 from check_jobs import jobs, kinds
 from check_sets import WRITTEN
+from sets import NAMING, SET_NUMBERS
 
 WANTED = {
     "examples": 1, "held to trees and to a search": 1000, "image": 250, "spoiled": 200, "spoiled and fails": 100, "mixture": 80, "union": 40, "random": 100,
@@ -27,9 +28,10 @@ WANTED = {
     "allowance 2^32-1": 100, "refused, allowance 0": 30,
     **{f"n {n}": 2 for n in range(1, 21)}, **{f"n {n}": 200 for n in range(1, 5)},
     **{f"image {way.__name__}": 8 for way in WRITTEN},
-    **{f"number {i}, source {source}": 5 for i in range(1, 11) for source in (1, 3)},
+    **{f"number {i}, source {source}": 5 for i in SET_NUMBERS for source in (1, 3)},
+    **{f"number {i}, source {source}, a later record": 5 for i in NAMING for source in (1, 3)}, "the record that was spoiled": 100,
     **{f"number {i}, source 2": 5 for i in (11, 12, 14, 15, 16)}, "number 13, source 0": 5,
-    **{f"number {i}, a later gate": 3 for i in (12, 14, 15, 16)},
+    **{f"number {i}, source 2, a later gate": 3 for i in (12, 14, 15, 16)},
     **{f"{d} {where} the bound": 2 for d in ("states", "inner", "leaves") for where in ("at", "over")},
     **{f"catches {error}": 20 for error in errors.ERRORS},
     **{f"k {d} apart, {kind}": 2 for d in check_random.K_APART for kind in ("equal", "unequal by one", "at the ends")},
@@ -54,6 +56,7 @@ def main(path):
     check_refused.bounds(3)
     check_refused.damaged(200)
     check_random.k_apart(3)
+    check_refused.records_named(6)
     lacking = [f"{k}: {kinds[k]} of {least}" for k, least in WANTED.items() if kinds[k] < least]
     for line in lacking:
         print("too few of", line)
@@ -65,7 +68,7 @@ def main(path):
             for part in (name.encode(), start, circuit, end):
                 f.write(struct.pack("<I", len(part)) + part)
             f.write(struct.pack("<I", allowance) + reply + struct.pack("<I", len(line)) + line.encode())
-    refused = ", ".join(f"{kinds[f'number {i}']} of {i}" for i in range(1, 17))
+    refused = ", ".join(f"{kinds[f'number {i}']} of {i}" for i in (*SET_NUMBERS, *range(11, 17)))
     print(f"{len(jobs)} jobs: {kinds['holds']} hold, {kinds['fails at place 1']} fail at place 1, {kinds['fails at a later place']} later, {kinds['undecided']} undecided")
     print(f"refusals: {refused}")
     print("errors that would be caught:", ", ".join(f"{error} by {kinds[f'catches {error}']}" for error in errors.ERRORS))

@@ -23,7 +23,7 @@ def job(name, start, circuit, end, allowance):
         answer = ready
         kinds.update((f"number {answer.number}, source {answer.source}", f"number {answer.number}", "refused"))
         if answer.place > 1:
-            kinds[f"number {answer.number}, a later gate"] += 1
+            kinds[f"number {answer.number}, source {answer.source}, a later {'gate' if answer.source == 2 else 'record'}"] += 1
         if allowance == 0:
             kinds["refused, allowance 0"] += 1
     else:

@@ -28,7 +28,7 @@ def examples():
         example(f"11: k {k}", spoil(z1, 4, bytes([k])), gt(4, 1), h, 1, line)
     example("11: k 63 and its own end set", spoil(z1, 4, b"\x3f"), gt(4, 1), spoil(h, 4, b"\x40"), 1, "holds 1")
     example("12: masks 1 and 2", spoil(b2, 28, b"\1"), bell, e2, 4, "holds 4")
-    example("12: masks 1 and 3", spoil(b2, 40, b"\3"), bell, e2, 4, "refused 10 1 0")
+    example("12: masks 1 and 3", spoil(b2, 40, b"\3"), bell, e2, 4, "refused 10 1 5")
     for count, line in ((4096, "holds 1"), (4097, "refused 11 2 0")):
         example(f"13: {count} gates", z1, gt(7, 1) * count, z1, 1, line)
         example(f"13: {count} gates, X", z1, gt(1, 1) * count, z1, 1, line)

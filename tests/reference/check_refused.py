@@ -6,8 +6,8 @@ from check_jobs import MOST, circuit_of, job, kinds, on_sets, rng
 from check_random import start_and_image
 from gate_sets import END, Draft
 from gates import build
-from sets import B2, BOUNDS, E2, Set, Z1, file_of, gt, read_set
-from vectors import cases as files, spoil
+from sets import B2, BOUNDS, E2, NAMING, SET_NUMBERS, Set, Z1, file_of, gt, read_set
+from vectors import cases as files, faulty, spoil, u16, u32
 
 
 def files_refused():
@@ -32,16 +32,19 @@ def order():
     top = (END,) * 4
     wide = [Set(1, k, (40, 40), tuple((q, 1 << c, 40 + q, 40 + c) for q in range(40) for c in range(32)), tuple((40 + c, 3, top) for c in range(40))) for k in (63, 64)]
     hot = Set(1, 62, (1, 2), Z1.inner, ((1, 1, top), (2, 1, top)))
-    bad = {i: next(b for name, b in files.items() if name.startswith(f"set-{i}-")) for i in range(1, 11)}
+    bad = {i: next(b for name, b in files.items() if name.startswith(f"set-{i}-")) for i in SET_NUMBERS}
+    # the names of these files say the places; the others are Z1's only TR, or 0
+    place_of = {6: 2, 81: 3, 82: 3, 83: 3, 84: 3, 9: 4, 10: 5}
     h, x, odd, wrong = gt(4, 1), gt(1, 1), b"GT", gt(0, 1)
-    for i in range(1, 11):
+    for i in SET_NUMBERS:
+        at = place_of.get(i, 0)
         for circuit in (b"", odd, wrong, h):
-            for end in (z1, bad[rng.randint(1, 10)], e2):
-                assert job(f"start {i} first", bad[i], circuit, end, rng.choice((0, 1))) == check.Answer(REFUSED, i, 1)
+            for end in (z1, bad[rng.choice(SET_NUMBERS)], e2):
+                assert job(f"start {i} first", bad[i], circuit, end, rng.choice((0, 1))) == check.Answer(REFUSED, i, 1, at)
         for circuit, number, place in ((odd, 11, 0), (x + wrong, 12, 2), (x * 4097, 11, 0)):
             assert job(f"{number} before end {i}", z1, circuit, bad[i], 1) == check.Answer(REFUSED, number, 2, place)
         for start, circuit in ((z1, b""), (b2, gt(9, 1, 2)), (file_of(wide[1]), h), (file_of(hot), h)):
-            assert job(f"end {i} before 13 and gates", start, circuit, bad[i], rng.choice((0, 1))) == check.Answer(REFUSED, i, 3)
+            assert job(f"end {i} before 13 and gates", start, circuit, bad[i], rng.choice((0, 1))) == check.Answer(REFUSED, i, 3, at)
     for allowance in (0, 1, MOST):
         assert job("12 before 13: a qubit that only the end set has", z1, gt(4, 2), e2, allowance) == check.Answer(REFUSED, 12, 2, 1)
         assert job("11 before 13", z1, odd, e2, allowance) == check.Answer(REFUSED, 11, 2)
@@ -104,7 +107,7 @@ def bounds(count):
                         draft.more_leaves(rng, more, 1)
                     big = draft.set()
                     now = unbounded(big, circuit)
-                    if isinstance(read_set(file_of(big)), int) or now is None or max(n[d] for n in now) != BOUNDS[d] + over:
+                    if isinstance(read_set(file_of(big)), tuple) or now is None or max(n[d] for n in now) != BOUNDS[d] + over:
                         continue
                     if any(n[other] > BOUNDS[other] for n in now for other in range(3) if other != d):
                         continue
@@ -137,3 +140,44 @@ def damaged(count):
                 b = spoil(b, where, b[other:other + rng.choice((2, 4, 12, 24))])[:len(b)]
             parts[which] = b
         job(f"damaged {('start', 'circuit', 'end')[which]} {i}", *parts, rng.choice((0, 1, 20, MOST)))
+
+
+# ---- places: the record that was spoiled is the one that is named
+def with_fault(s, number):
+    """The file of the set with that fault in one of its records, and this record's number; None if no record can have it."""
+    b = file_of(s)
+    sizes = [12] + [4] * (s.n + 1) + [12] * len(s.inner) + [24] * len(s.leaves)
+    begin = [sum(sizes[:p]) for p in range(len(sizes))]
+    trs = [p for p in range(1, len(sizes)) if sizes[p] == 12]
+    # two records of one state in turn: the later one gets the choices of the earlier one
+    twins = [p for p in trs[1:] if b[begin[p] + 2:begin[p] + 4] == b[begin[p] - 10:begin[p] - 8]]
+    among = {6: range(1, len(sizes)), 9: [p for p in range(len(sizes)) if sizes[p] == 24], 10: twins}.get(number, trs)
+    if not among or s.counts[-1] == 0:
+        return None
+    p = rng.choice(among)
+    where, new = {6: (0, b"tr"), 81: (2, u16(sum(s.counts) - 1)), 82: (8, u16(0)), 83: (10, u16(0)), 84: (4, u32(0)), 9: (4, u32(0)), 10: (4, b[begin[p] - 8:begin[p] - 4])}[number]
+    return spoil(b, begin[p] + where, new), p
+
+
+def records_named(count):
+    """Each number that names a record, in records drawn at random, of the start set and of the end set."""
+    z1 = file_of(Z1)
+    for number in NAMING:
+        made = 0
+        while made < count:
+            s, _, _ = start_and_image(0, 20, rng.randint(2, 4))
+            found = with_fault(s, number)
+            if found is None:
+                continue
+            b, place = found
+            made += 1
+            assert job(f"{number} at record {place} of the start {made}", b, b"GT", z1, 0) == check.Answer(REFUSED, number, 1, place)
+            assert job(f"{number} at record {place} of the end {made}", z1, gt(1, 1), b, 0) == check.Answer(REFUSED, number, 3, place)
+            kinds["the record that was spoiled"] += 2
+    # two TR records at fault: the earlier one is named, whatever the numbers
+    for first in (81, 82, 83, 84):
+        for second in (81, 82, 83, 84):
+            b = faulty(rng.randint(2, 4), second, b=faulty(rng.randint(0, 1), first))
+            place = read_set(b)[1]
+            assert place in (4, 5) and job(f"{first} before {second}", b, b"", z1, 0) == check.Answer(REFUSED, first, 1, place)
+            kinds["the record that was spoiled"] += 1

@@ -17,7 +17,7 @@ import gates
 from gate_sets import END, ENDS, SMALL, Draft, random_set
 from gates import build, meet, members, transitions
 from held import dense, sampled
-from sets import B2, BOUNDS, Set, Z1, file_of, gt, read_circuit, read_set
+from sets import B2, BOUNDS, NAMING, SET_NUMBERS, Set, Z1, file_of, gt, read_circuit, read_set
 from vectors import cases as files, spoil
 
 DIMENSIONS = ("states", "inner", "leaves")
@@ -30,8 +30,8 @@ jobs, kinds = [], Counter()
 def answer(b, circuit):
     """Kind, number, source, place, and the new set or None."""
     s = read_set(b)
-    if isinstance(s, int):
-        return 0, s, 1, 0, None
+    if isinstance(s, tuple):
+        return 0, s[0], 1, s[1], None
     read = read_circuit(circuit, s.n, one=True)
     if isinstance(read, tuple):
         return 0, read[0], 2, read[1], None
@@ -47,6 +47,7 @@ def job(name, b, circuit):
     reply = struct.pack("<4B3I", kind, number, source, 0, place, len(out), 0) + bytes(48)
     jobs.append((name, b, circuit, reply, out))
     kinds[f"number {number}"] += 1
+    kinds[f"number {number}, a later record"] += source == 1 and place > 1
     if new is not None:
         assert read_set(out) == new, name
         note(read_set(b), read_circuit(circuit, new.n, one=True)[0], new)
@@ -310,7 +311,7 @@ def order_of_refusals():
         for gate in ((4, 1, 0), (2, n, 0), (9, 1, n), (10, n, 1)):
             if gate[0] < 9 or n > 1:
                 on_set(f"no transitions, n {n}, code {gate[0]}", Set(n, 63, (3,) + (1,) * n, (), ()), gate)
-    for number, b in ((1, b""), (2, files["set-2-version-0"]), (10, files["set-10-masks-1-and-3"])):
+    for number, b in ((1, b""), (2, files["set-2-version-0"]), (84, files["set-84-at-6"]), (10, files["set-10-masks-1-and-3"])):
         for circuit in (b"", b"GT", gt(0, 0), gt(4, 99), bytes(12)):
             assert job(f"{number} before the circuit's {len(circuit)} bytes", b, circuit)[0] == number
             kinds["a set's refusal before the circuit's"] += 1
@@ -369,7 +370,7 @@ WANTED = {
     "k 64 kept": 50, "H at k 63": 5, "coefficients at an end before": 50, "H with a coefficient at an end after": 20, "output of the whole length": 3,
     "CX, control above": 50, "CX, control below": 50, "CX, control far above": 20, "CX, control far below": 20, "CZ, control smaller": 50, "CZ, control greater": 50,
     "14 before 16": 1, "15 before 16": 1, "a set's refusal before the circuit's": 15, "number 0": 1500, "number 16": 30,
-    **{f"number {i}": 5 for i in (1, 2, 3, 4, 5, 6, 7, 8, 9, 10, 11, 12, 14, 15)},
+    **{f"number {i}": 5 for i in (*SET_NUMBERS, 11, 12, 14, 15)}, **{f"number {i}, a later record": 5 for i in NAMING},
     **{f"code {c}{where}": 20 for c in range(1, 11) for where in ("", " on the first qubit", " on the last qubit")},
     **{f"n {n}": 10 for n in range(1, 21)},
     **{f"{d} at the bound, code {c}": 2 for d in DIMENSIONS for c in range(1, 11)},
@@ -400,7 +401,7 @@ def main(path):
             for part in (name.encode(), b, circuit):
                 f.write(struct.pack("<I", len(part)) + part)
             f.write(reply + struct.pack("<I", len(out)) + out)
-    refused = ", ".join(f"{kinds[f'number {i}']} of {i}" for i in range(1, 17) if kinds[f"number {i}"])
+    refused = ", ".join(f"{kinds[f'number {i}']} of {i}" for i in (*SET_NUMBERS, *range(11, 17)) if kinds[f"number {i}"])
     print(f"{len(jobs)} jobs: {kinds['number 0']} results, refusals: {refused}")
     print("results:", ", ".join(f"{kinds[k]} {k}" for k in MATRICES))
     return 0

@@ -13,13 +13,14 @@ import tempfile
 import time
 
 from sets import B2, E2, Z1, file_of, gt
+from vectors import faulty, spoil
 
 MOST = 65536
 BELL = "example 7, B 4"
-# document 01's examples of the program, and the line of each
+# document 01's examples of the program, and the line of each; document 02, request 2, gives that of 12 its place
 EXAMPLES = {
     BELL: "holds 4", "example 7, B 3": "undecided 3", "example 7, B 0": "undecided 0", "example 8": "fails 1 0 0 0 0", "example 9": "fails 1 0 0 0",
-    "example 11: k 63 and its own end set": "holds 1", "example 11: k 64": "refused 15 2 1",
+    "example 11: k 63 and its own end set": "holds 1", "example 11: k 64": "refused 15 2 1", "example 12: masks 1 and 3": "refused 10 1 5",
     "example 13: 4096 gates": "holds 1", "example 13: 4097 gates": "refused 11 2 0",
     "example 14: end set of 128 states": "holds 1", "example 14: end set of 129 states": "refused 4 3 0",
 }
@@ -98,6 +99,15 @@ def long_parts():
     yield "no end", input_of(z1, b"", b"", 0), "refused 1 3 0"
 
 
+def records_named():
+    """Document 02, request 2: the record's number, HD being 0, of either set; B2 has LV 1 to 3, TR 4 to 8 and LF 9 and 10."""
+    b2 = file_of(B2)
+    for spoiled, number, place in ((spoil(b2, 20, b"lv"), 6, 3), (spoil(b2, 72, b"tr"), 6, 8), (spoil(b2, 84, b"lf"), 6, 9), (faulty(1, 81), 81, 5), (faulty(2, 82), 82, 6), (faulty(3, 83), 83, 7),
+                                   (faulty(4, 84), 84, 8), (faulty(4, 81, b=faulty(0, 84)), 84, 4), (faulty(3, 81, 82, 83, 84), 81, 7), (spoil(b2, 112, bytes(4)), 9, 10), (spoil(b2, 64, b"\1"), 10, 7)):
+        yield f"{number} at record {place} of the start", input_of(spoiled, b"", b2, 1), f"refused {number} 1 {place}"
+        yield f"{number} at record {place} of the end", input_of(b2, b"", spoiled, 1), f"refused {number} 3 {place}"
+
+
 # ---- ways to give the input
 def whole(program, given):
     return subprocess.run([program], input=given, capture_output=True, timeout=60)
@@ -129,7 +139,7 @@ def main(program, path, crate):
     asked = [(name, input_of(*job, allowance), line) for name, *job, allowance, line in jobs_of(path)]
     no_job = [(f"no job: {name}", given, "refused 18 0 0") for name, given in no_jobs()]
     runs = failed = 0
-    for i, (name, given, line) in enumerate(asked + no_job + list(long_parts())):
+    for i, (name, given, line) in enumerate(asked + no_job + list(long_parts()) + list(records_named())):
         often = i % 10 == 0 or name in EXAMPLES or name.startswith("no job") and len(given) < 5000
         for way in (whole, from_file, in_pieces) if often else (whole,):
             got = way(program, given)

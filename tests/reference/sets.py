@@ -5,6 +5,9 @@ from dataclasses import dataclass
 RANGE = 1 << 30
 BOUNDS = (1024, 2048, 1024)
 END_BOUNDS = (128, 2048, 1024)
+# the numbers of a set's refusals in their order, and those that name a record
+SET_NUMBERS = (1, 2, 3, 4, 5, 6, 7, 81, 82, 83, 84, 9, 10)
+NAMING = (6, 81, 82, 83, 84, 9, 10)
 
 
 @dataclass(frozen=True)
