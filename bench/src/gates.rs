@@ -276,10 +276,10 @@ pub fn build(set: &Set, gate: &Gate) -> Result<Set, u8> {
 
 /// The whole job: the new set's bytes, or the refusal.
 pub fn one_gate_rust(set: &[u8], circuit: &[u8]) -> Result<Vec<u8>, Refusal> {
-    let set = read_set(set).map_err(|number| Refusal {
+    let set = read_set(set).map_err(|(number, place)| Refusal {
         number,
         source: 1,
-        place: 0,
+        place,
     })?;
     let gate = read_gate(circuit, set.n).map_err(|(number, place)| Refusal {
         number,

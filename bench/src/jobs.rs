@@ -47,7 +47,7 @@ pub fn image_and_end(job: &Job) -> Result<(Set, Set), Refusal> {
             place,
         }
     };
-    let mut image = read_set(&job.start).map_err(refused(1, 0))?;
+    let mut image = read_set(&job.start).map_err(|(number, place)| refused(1, place)(number))?;
     if job.circuit.len() % 6 != 0 || job.circuit.len() > 6 * 4096 {
         return Err(refused(2, 0)(11));
     }
@@ -55,7 +55,7 @@ pub fn image_and_end(job: &Job) -> Result<(Set, Set), Refusal> {
     for (i, record) in job.circuit.chunks_exact(6).enumerate() {
         gates.push(read_gate(record, image.n).map_err(|_| refused(2, i as u32 + 1)(12))?);
     }
-    let end = read_end_set(&job.end).map_err(refused(3, 0))?;
+    let end = read_end_set(&job.end).map_err(|(number, place)| refused(3, place)(number))?;
     if end.n != image.n {
         return Err(refused(0, 0)(13));
     }
