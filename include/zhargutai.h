@@ -69,7 +69,8 @@ extern "C" {
  *   byte  1        number of the refusal, 0 if nothing was refused
  *   byte  2        its source: 1 start set, 2 circuit, 3 end set, 0 for 13 and 17
  *   byte  3        zero
- *   bytes 4 to 7   its place: the gate, from 1, for 12, 14, 15 and 16; else 0
+ *   bytes 4 to 7   its place: the gate, from 1, for 12, 14, 15 and 16; the record's number in the set file, HD being 0,
+ *                  for 6, 81 to 84, 9 and 10; else 0
  *   bytes 8 to 11  count; for `made` the length of the new set, the closing element or the number of letters; 0 for a refusal
  *   bytes 12 to 15 root of the first start that fails; else 0
  *   bytes 16 to 36 its word in 21 places, one choice each; else 0
@@ -104,8 +105,9 @@ extern "C" {
  * and all further bytes of output stay as they were.
  *
  * Refused: the kind is ZHARGUTAI_REFUSED and every byte of output stays. The numbers are 17 for a short output, tested
- * before anything else; 1 to 10 for the set; 11 and 12 for the circuit; then 15 (H at k = 64), 14 (the result is over
- * 1,024 states, 2,048 inner transitions or 1,024 leaf transitions) and 16 (a coefficient would leave its range), in this order.
+ * before anything else; 1 to 7, 81 to 84, 9 and 10 for the set; 11 and 12 for the circuit; then 15 (H at k = 64), 14 (the
+ * result is over 1,024 states, 2,048 inner transitions or 1,024 leaf transitions) and 16 (a coefficient would leave its
+ * range), in this order. 81 to 84 are for the earliest TR record at fault: its state, its left child, its right child, its mask.
  *
  * A reply buffer under ZHARGUTAI_REPLY_SIZE bytes: 17 is returned and nothing is written anywhere.
  */
@@ -132,10 +134,10 @@ uint32_t zhargutai_one_gate(const uint8_t *set, size_t set_len,
  *   ZHARGUTAI_FAILS      a member does not pass; the count is the place of the first such, from 1, with its root and word
  *   ZHARGUTAI_UNDECIDED  as many as allowed passed, and there are more; the count is the allowance
  *
- * Refused: the kind is ZHARGUTAI_REFUSED. The numbers are 1 to 10 for the start set; 11 and 12 for the circuit, whose qubits
- * are held to the start set; 1 to 10 for the end set; 13 (source 0) for an end set of another number of qubits; then gate by
- * gate 15, 14 and 16 as above, with source 2. All of these come before the first member, whatever the allowance. The place is
- * the gate, from 1, for 12, 14, 15 and 16.
+ * Refused: the kind is ZHARGUTAI_REFUSED. The numbers are 1 to 7, 81 to 84, 9 and 10 for the start set, as above; 11 and 12
+ * for the circuit, whose qubits are held to the start set; the start set's numbers for the end set; 13 (source 0) for an end
+ * set of another number of qubits; then gate by gate 15, 14 and 16 as above, with source 2. All of these come before the first
+ * member, whatever the allowance.
  *
  * A reply buffer under ZHARGUTAI_REPLY_SIZE bytes: 17 is returned and nothing is written. There is no other 17: the work
  * buffers are the entry's own, on the caller's stack (tests/stack.sh measures them).
