@@ -8,6 +8,7 @@ use masks::next_choice;
 use meeting::Level;
 use meeting::next_met;
 use sharing::shared_choices;
+use tables::ROW_WIDTH;
 ghost use mathlib.Core.Path.{_≡_};
 ghost use Prim.Native.Nat.{_-_, _<_};
 ghost use lib.ListN.{length};
@@ -20,9 +21,6 @@ ghost use Rattle.leafrows.specs.Value.{ampIs, InRange};
 ghost use Rattle.leafrows.specs.Row.{rowAmp};
 ghost use Rattle.meeting.specs.All.{metBy, allMet};
 ghost use Rattle.fitting.specs.Fit.{leavesIn, LeafRow, PairLeaves, RowLeaves, LeafStage};
-
-// A row's places in `rows`.
-const ROW_WIDTH: usize = 3;
 
 // A number of 16 bits as an index.
 fn index(x: u16) -> usize

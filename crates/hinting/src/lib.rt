@@ -8,6 +8,7 @@ use meeting::Level;
 use meeting::is_met;
 use meeting::meet;
 use meeting::next_met;
+use tables::ROW_WIDTH;
 ghost use mathlib.Core.Path.{_≡_};
 ghost use mathlib.Core.Bool.{true};
 ghost use Prim.Native.Nat.{_-_, _<_, _≤_};
@@ -18,9 +19,6 @@ ghost use Rattle.meeting.specs.All.{metBy, allMet};
 ghost use Rattle.lookup.specs.Lookup.{pairRow};
 ghost use Rattle.stepping.specs.Step.{KidsThere};
 ghost use Rattle.hinting.specs.Hint.{bothMarked, EndFits, KidsMay, EndRows, KidRows, Hint, PairReady, RowReady, Ground, Marked, MarkedRow, Hinted, RowThere, LevelThere};
-
-// A row's places in `rows`.
-const ROW_WIDTH: usize = 3;
 
 // Some row of the end set from row `from` up to below row `to` has a leaf equal to that of row i.
 pub fn end_fits(

@@ -3,6 +3,7 @@
 use lookup::Found;
 use lookup::choices_of;
 use lookup::transition;
+use tables::ROW_WIDTH;
 ghost use mathlib.Core.Path.{_≡_};
 ghost use mathlib.Core.Bool.{_&&_};
 ghost use Prim.Native.Nat.{ℕ, _≤_, _<_};
@@ -10,9 +11,6 @@ ghost use lib.ListN.{length};
 ghost use Rattle.automata.specs.Choice.{choicesMost, has};
 ghost use Rattle.lookup.specs.Lookup.{transitionRow, pairRow, isSome};
 ghost use Rattle.reaching.specs.Reached.{isReached, ifReached, allReached, kidsIn, hasChoice, Reaching, Emptied, KidsThere, Twice, Ready, Stage, Ended, Spread, Gone};
-
-// A row's places in `rows`.
-const ROW_WIDTH: usize = 3;
 
 // Every choice.
 const ALL: u32 = 4294967295;

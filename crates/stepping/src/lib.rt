@@ -6,6 +6,7 @@ use meeting::Level;
 use meeting::meet;
 use meeting::meet_none;
 use meeting::next_met;
+use tables::ROW_WIDTH;
 ghost use mathlib.Core.Path.{_≡_};
 ghost use Prim.Native.Nat.{_-_, _<_};
 ghost use lib.ListN.{length};
@@ -13,9 +14,6 @@ ghost use Rattle.automata.specs.Choice.{choicesMost};
 ghost use Rattle.lookup.specs.Lookup.{pairRow};
 ghost use Rattle.meeting.specs.All.{metBy, allMet};
 ghost use Rattle.stepping.specs.Step.{kidsIn, KidsThere, Twice, Ready, RowReady, Stage, Stepped, Gone};
-
-// A row's places in `rows`.
-const ROW_WIDTH: usize = 3;
 
 // The children of the image's row i and of the end set's row j meet, left with left and right with right.
 fn meet_kids(rows: &[u16], endrows: &[u16], met: &mut [u32], wide: u16, i: u16, j: u16)
