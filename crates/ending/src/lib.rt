@@ -51,7 +51,9 @@ fn end_single(
 ) -> Ending
     requires { ⌜ Leaves (now src) (now choices) (now numbers) k from to ⌝ }
     requires { ⌜ Lent (now rows) (now masks) (now coefs) most done ⌝ }
-    ensures { λ r. ⌜ Ended (now (rows .entry)) (now (masks .entry)) (now (coefs .entry)) done most (numbering.rows state (mapAlt (turn shift) (leafAlts (now (src .entry)) (now (choices .entry)) (now (numbers .entry)) from (to - from)))) (now (rows .exit)) (now (masks .exit)) (now (coefs .exit)) r ⌝ }
+    ensures { λ r. ⌜ Ended (now (rows .entry)) (now (masks .entry)) (now (coefs .entry)) done most
+        (numbering.rows state (mapAlt (turn shift) (leafAlts (now (src .entry)) (now (choices .entry)) (now (numbers .entry)) from (to - from))))
+        (now (rows .exit)) (now (masks .exit)) (now (coefs .exit)) r ⌝ }
 {
     let mut d = done;
     let mut i = from;
@@ -95,7 +97,11 @@ fn end_pair(
     requires { ⌜ Leaves (now src) (now choices) (now numbers) k qfrom qto × Leaves (now src) (now choices) (now numbers) k pfrom pto ⌝ }
     requires { ⌜ Distinct (leafAlts (now src) (now choices) (now numbers) qfrom (qto - qfrom)) × Distinct (leafAlts (now src) (now choices) (now numbers) pfrom (pto - pfrom)) ⌝ }
     requires { ⌜ Lent (now rows) (now masks) (now coefs) most done ⌝ }
-    ensures { λ r. ⌜ Ended (now (rows .entry)) (now (masks .entry)) (now (coefs .entry)) done most (numbering.rows state (together (pairEnd (sideIs minus)) (leafAlts (now (src .entry)) (now (choices .entry)) (now (numbers .entry)) qfrom (qto - qfrom)) (leafAlts (now (src .entry)) (now (choices .entry)) (now (numbers .entry)) pfrom (pto - pfrom)))) (now (rows .exit)) (now (masks .exit)) (now (coefs .exit)) r ⌝ }
+    ensures { λ r. ⌜ Ended (now (rows .entry)) (now (masks .entry)) (now (coefs .entry)) done most
+        (numbering.rows state (together (pairEnd (sideIs minus))
+        (leafAlts (now (src .entry)) (now (choices .entry)) (now (numbers .entry)) qfrom (qto - qfrom))
+        (leafAlts (now (src .entry)) (now (choices .entry)) (now (numbers .entry)) pfrom (pto - pfrom))))
+        (now (rows .exit)) (now (masks .exit)) (now (coefs .exit)) r ⌝ }
 {
     let up = grown(k);
     let mut left = union_of(choices, qfrom, qto) & union_of(choices, pfrom, pto);
@@ -142,7 +148,9 @@ fn end_state(
 ) -> Ending
     requires { ⌜ LeafKey (now src) (now choices) (now numbers) (now first) k key ⌝ }
     requires { ⌜ Lent (now rows) (now masks) (now coefs) most done ⌝ }
-    ensures { λ r. ⌜ Ended (now (rows .entry)) (now (masks .entry)) (now (coefs .entry)) done most (numbering.rows state (endsOf (now (src .entry)) (now (choices .entry)) (now (numbers .entry)) (now (first .entry)) key)) (now (rows .exit)) (now (masks .exit)) (now (coefs .exit)) r ⌝ }
+    ensures { λ r. ⌜ Ended (now (rows .entry)) (now (masks .entry)) (now (coefs .entry)) done most
+        (numbering.rows state (endsOf (now (src .entry)) (now (choices .entry)) (now (numbers .entry)) (now (first .entry)) key))
+        (now (rows .exit)) (now (masks .exit)) (now (coefs .exit)) r ⌝ }
 {
     let tag = key / 65536 / 65536;
     let q = (key / 65536 % 65536) as usize;
@@ -205,7 +213,9 @@ pub fn end_level(
     requires { ⌜ (count ≤ length (now cur)) × (base + count < 65536) ⌝ }
     requires { ⌜ ((i : ℕ) → i < count → LeafKey (now src) (now choices) (now numbers) (now first) k (getD (now cur) i 0)) ⌝ }
     requires { ⌜ Lent (now rows) (now masks) (now coefs) most done ⌝ }
-    ensures { λ r. ⌜ Ended (now (rows .entry)) (now (masks .entry)) (now (coefs .entry)) done most (numbering.allRows (endsOf (now (src .entry)) (now (choices .entry)) (now (numbers .entry)) (now (first .entry))) base (take count (now (cur .entry)))) (now (rows .exit)) (now (masks .exit)) (now (coefs .exit)) r ⌝ }
+    ensures { λ r. ⌜ Ended (now (rows .entry)) (now (masks .entry)) (now (coefs .entry)) done most
+        (numbering.allRows (endsOf (now (src .entry)) (now (choices .entry)) (now (numbers .entry)) (now (first .entry))) base (take count (now (cur .entry))))
+        (now (rows .exit)) (now (masks .exit)) (now (coefs .exit)) r ⌝ }
 {
     let mut d = done;
     let mut i: u16 = 0;

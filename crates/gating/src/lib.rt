@@ -1,13 +1,12 @@
 // Document 01, the job *One gate*, in slices that are long enough and over any bounds: the set is read and unpacked, its gate applied from one table
 // to another, and the new set written to the output.
-use settling::GateResult;
 use applying::apply_gate;
 use building::Room;
 use circuitfile::CircuitAnswer;
+use circuitfile::read_one;
 use circuits::Gate;
 use circuits::GateAnswer;
 use circuits::gate_at;
-use circuitfile::read_one;
 use loading::load;
 use packing::pack;
 use refusals::CIRCUIT;
@@ -19,6 +18,7 @@ use replies::refused;
 use setfile::Bounds;
 use setfile::Form;
 use setfile::SetAnswer;
+use settling::GateResult;
 ghost use mathlib.Core.Path.{_≡_};
 ghost use Prim.Native.Nat.{_≤_};
 ghost use lib.ListN.{length};

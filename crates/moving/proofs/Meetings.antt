@@ -18,9 +18,10 @@ use Rattle.stepwise.specs.Grow.{Level, growState}
 use Rattle.stepwise.specs.Meet.{pick, joined, maskOfJoined, meetLeft}
 use Rattle.stepwise.proofs.MeetLaws.{meet-exact}
 use Rattle.growing.specs.declared.Most.{Most}
-use Rattle.moving.specs.declared.Meeting.{Meeting}
+use Rattle.pairing.specs.declared.Meeting.{Meeting}
 use Rattle.lookup.specs.Alts.{altsFrom}
-use Rattle.moving.specs.Moves.{altRow, growAlt, growAlts, Met, State}
+use Rattle.pairing.specs.Meetings.{altRow, Met}
+use Rattle.moving.specs.Moves.{growAlt, growAlts, State}
 use Rattle.moving.proofs.Rows.{union-alts}
 
 -- ---- the loop's test

@@ -3,25 +3,17 @@ use mathlib.Core.Path.{_≡_}
 use mathlib.Core.List.{List}
 use Prim.Native.Nat.{ℕ, _+_, _-_, _*_, _<_, _≤_}
 use lib.Dec.{eqb}
-use lib.Bits.{bitAnd}
 use lib.ListN.{length, getD}
-use Rattle.automata.specs.Choice.{Alt, alt, least, mapAlt}
+use Rattle.automata.specs.Choice.{Alt, alt, mapAlt}
 use Rattle.automata.proofs.Choosing.{Disjoint}
 use Rattle.automata.proofs.Order.{Masked}
 use Rattle.gates.specs.Key.{stored}
 use Rattle.gates.specs.Roles.{Role, Two, keyMoves}
 use Rattle.tables.specs.Table.{rowWidth}
-use Rattle.lookup.specs.Lookup.{pairRow}
 use Rattle.lookup.specs.Alts.{altsFrom, movesIn}
 use Rattle.stepwise.specs.Grow.{Level, grow, growState}
-use Rattle.stepwise.specs.Meet.{pick}
 use Rattle.stepwise.specs.Code.{unstored, storedTwo}
 use Rattle.growing.specs.declared.Most.{Most}
-use Rattle.moving.specs.declared.Meeting.{Meeting}
-
--- the alternative in row i
-abbrev pub altRow : List ℕ → List ℕ → ℕ → Alt (ℕ × ℕ)
-altRow rows masks i = alt (getD masks i 0) (pairRow rows i)
 
 -- those of the state that a stored key names, children as stored keys, at a level with this role
 unfoldable pub movesOf : Role → List ℕ → List ℕ → List ℕ → ℕ → List (Alt (ℕ × ℕ))
@@ -33,18 +25,6 @@ growAlt most s (alt m p) G = grow eqb (most .base) s m (stored (p .0)) (stored (
 
 abbrev pub growAlts : Most → ℕ → List (Alt Two) → Level ℕ → Level ℕ
 growAlts most s us G = growState eqb (most .base) s (mapAlt storedTwo us) G
-
--- the row from `from` up to below `to` that is picked for a choice
-pub record Picked (masks : List ℕ) (from to c r : ℕ) : Type 0 where
-  pub is : (rows : List ℕ) → altRow rows masks r ≡ pick (altRow rows masks from) c (altsFrom rows masks from (to - from))
-  pub after : from ≤ r
-  pub before : r < to
-
--- the two rows, one of each state, that are picked for the least of the choices left, and what their masks share
-pub record Met (masks : List ℕ) (qfrom qto pfrom pto left : ℕ) (m : Meeting) : Type 0 where
-  pub one : Picked masks qfrom qto (least left) (m .i)
-  pub other : Picked masks pfrom pto (least left) (m .j)
-  pub shared : m .mask ≡ bitAnd (getD masks (m .i) 0) (getD masks (m .j) 0)
 
 -- rows from `from` up to below `to` that are there, with masks of 32 bits that share no choice
 pub record State (rows masks : List ℕ) (from to : ℕ) : Type 0 where

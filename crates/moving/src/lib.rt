@@ -3,28 +3,24 @@
 use growing::Most;
 use growing::Progress;
 use growing::grow;
-use lookup::Found;
-use lookup::find_row;
 use lookup::union_of;
-use masks::least_choice;
+use pairing::pick_both;
+use pairing::two_kids;
 use roles::Role;
 use roles::Side;
-use roles::pair_kids;
 use roles::single_kids;
+use tables::ROW_WIDTH;
 ghost use mathlib.Core.Path.{_≡_};
 ghost use Prim.Native.Nat.{_+_, _-_, _*_, _<_, _≤_};
 ghost use lib.ListN.{length, getD};
-ghost use Rattle.automata.specs.Choice.{choicesMost, alt, least, mapAlt, together};
+ghost use Rattle.automata.specs.Choice.{alt, mapAlt, together};
 ghost use Rattle.gates.specs.Roles.{pairKids};
 ghost use Rattle.tables.specs.Table.{rowWidth};
 ghost use Rattle.lookup.specs.Lookup.{pairRow};
 ghost use Rattle.roles.specs.Kept.{roleIs, sideIs, singleKids};
 ghost use Rattle.growing.specs.Growing.{levelIn, Growing, Kept, Grew};
 ghost use Rattle.lookup.specs.Alts.{altsFrom};
-ghost use Rattle.moving.specs.Moves.{growAlt, growAlts, Picked, Met, State};
-
-// A row's places in `rows`.
-const ROW_WIDTH: usize = 3;
+ghost use Rattle.moving.specs.Moves.{growAlt, growAlts, State};
 
 // One record more, from row i of a state that is no pair.
 fn grow_row(
@@ -116,45 +112,6 @@ pub fn grow_single(
     held
 }
 
-// The first row from `from` up to below `to` whose mask has the choice; `from` where there is none.
-pub fn pick_row(masks: &[u32], from: u16, to: u16, choice: u8) -> u16
-    requires { ⌜ (from < to) × (to ≤ length (now masks)) × (choice < choicesMost) ⌝ }
-    ensures { λ r. ⌜ Picked (now (masks .entry)) from to choice r ⌝ }
-{
-    let found = find_row(masks, from, to, choice);
-    let Found::Row(i) = found else {
-        return from;
-    };
-    i
-}
-
-// Two rows that meet, one of each state of a pair, and the choices that both have.
-struct Meeting {
-    i: u16,
-    j: u16,
-    mask: u32,
-}
-
-// The least of the choices left.
-fn first_choice(left: u32) -> u8
-    requires { ⌜ (left ≡ 0 → ⊥) ⌝ }
-    ensures { λ r. ⌜ (r ≡ least left) × (r < choicesMost) ⌝ }
-{
-    least_choice(left) as u8
-}
-
-// The rows of both states with the least of the choices left.
-fn pick_both(masks: &[u32], qfrom: u16, qto: u16, pfrom: u16, pto: u16, left: u32) -> Meeting
-    requires { ⌜ (left ≡ 0 → ⊥) × (qfrom < qto) × (pfrom < pto) × (qto ≤ length (now masks)) × (pto ≤ length (now masks)) ⌝ }
-    ensures { λ r. ⌜ Met (now (masks .entry)) qfrom qto pfrom pto left r ⌝ }
-{
-    let c = first_choice(left);
-    let i = pick_row(masks, qfrom, qto, c);
-    let j = pick_row(masks, pfrom, pto, c);
-    let mask = masks[i as usize] & masks[j as usize];
-    Meeting { i, j, mask }
-}
-
 // One record more, from rows i and j of the two states of a pair, with the choices that both rows have.
 fn grow_two(
     old: &[u16],
@@ -180,9 +137,7 @@ fn grow_two(
     ensures { λ _. ⌜ Kept (now (rows .entry)) (now (masks .entry)) (now (keys .entry)) (now (link .entry)) (now (heads .entry))
         (now (rows .exit)) (now (masks .exit)) (now (keys .exit)) (now (link .exit)) (now (heads .exit)) ⌝ }
 {
-    let a = i as usize * ROW_WIDTH;
-    let b = j as usize * ROW_WIDTH;
-    let kids = pair_kids(role, side, old[a + 1], old[a + 2], old[b + 1], old[b + 2]);
+    let kids = two_kids(old, i, j, role, side);
     grow(
         rows,
         masks,

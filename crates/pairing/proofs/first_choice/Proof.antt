@@ -1,9 +1,9 @@
--- `moving::first_choice` meets its contract: a mask of 32 bits that is not empty has a least choice below 32. Assumes nothing.
+-- `pairing::first_choice` meets its contract: a mask of 32 bits that is not empty has a least choice below 32. Assumes nothing.
 use native.Mathlib.Omega.{arith}
 use Rattle.automata.proofs.Masks.{least-small}
 use borrow.Author.Needs.{needs}
-use Rattle.moving.proofs.first_choice.Statement.{statement}
-use Rattle.moving.proofs.first_choice.Tie as tie
+use Rattle.pairing.proofs.first_choice.Statement.{statement}
+use Rattle.pairing.proofs.first_choice.Tie as tie
 
 returns : tie.Need-returns
 returns c =

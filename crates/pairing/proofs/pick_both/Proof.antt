@@ -1,8 +1,8 @@
--- `moving::pick_both` meets its contract: both rows are picked for the least of the choices left. Assumes nothing.
+-- `pairing::pick_both` meets its contract: both rows are picked for the least of the choices left. Assumes nothing.
 use mathlib.Core.Path.{refl}
 use borrow.Author.Needs.{needs}
-use Rattle.moving.proofs.pick_both.Statement.{statement}
-use Rattle.moving.proofs.pick_both.Tie as tie
+use Rattle.pairing.proofs.pick_both.Statement.{statement}
+use Rattle.pairing.proofs.pick_both.Tie as tie
 
 returns : tie.Need-returns
 returns c =

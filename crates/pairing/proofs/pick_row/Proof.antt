@@ -1,8 +1,8 @@
--- `moving::pick_row` meets its contract: the row that the lookup found is the one picked. Assumes nothing.
-use Rattle.moving.proofs.Rows.{picked-none, picked-row, answer-none, answer-row}
+-- `pairing::pick_row` meets its contract: the row that the lookup found is the one picked. Assumes nothing.
+use Rattle.pairing.proofs.Rows.{picked-none, picked-row, answer-none, answer-row}
 use borrow.Author.Needs.{needs}
-use Rattle.moving.proofs.pick_row.Statement.{statement}
-use Rattle.moving.proofs.pick_row.Tie as tie
+use Rattle.pairing.proofs.pick_row.Statement.{statement}
+use Rattle.pairing.proofs.pick_row.Tie as tie
 
 returns : tie.Need-returns
 returns c =
