@@ -1,0 +1,9 @@
+pub mod Lists
+pub mod Divisors
+pub mod Parts
+pub mod Steps
+pub mod Taking
+pub mod Viable
+pub mod Finding
+pub mod Texts
+pub mod Examples
