@@ -3,12 +3,11 @@
 // planes of `stack`, of which plane j begins at cell j * plane. Slot k remembers a block for each level: its row begins at cell k * cells of
 // `rows`, its planes at cell k * (room * plane) of `kept`, and cell k * 21 + at of `counts` and of `sizes` has the block's members and 1 (0 for
 // nothing remembered), and its p. What a block says is not known here: the contracts hold for every test of blocks.
-use wiping::wipe_u32;
 ghost use mathlib.Core.Bool.{true};
 ghost use mathlib.Core.List.{List};
 ghost use mathlib.Core.Path.{_≡_};
 ghost use Prim.Native.Nat.{ℕ, suc, _+_, _-_, _*_, _≤_, _<_};
-ghost use lib.ListN.{length, replicate};
+ghost use lib.ListN.{length};
 ghost use Rattle.remembering.specs.Copies.{Equal, EqualPlanes, Spans, SpansPlanes, Copied, CopiedPlanes};
 ghost use Rattle.remembering.specs.Fits.{Placed, Fits, Held, Put, Noted};
 ghost use Rattle.remembering.specs.Memory.{Same, slotRow, slotStack, levelsMost, cellOf, Saying, Memory};
@@ -402,11 +401,4 @@ pub fn keep(
         counts,
         sizes,
     );
-}
-
-// Nothing is remembered now.
-pub fn forget(counts: &mut [u32])
-    ensures { λ _. ⌜ now (counts .exit) ≡ replicate (length (now (counts .entry))) 0 ⌝ }
-{
-    wipe_u32(counts);
 }
