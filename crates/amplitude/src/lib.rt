@@ -1,1 +1,2 @@
 // Document 01, "Amplitudes": definitions in specs/, theorems in proofs/. No code.
+#![tactic(auto)]

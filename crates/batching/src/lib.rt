@@ -1,6 +1,7 @@
 // Relations of the next level in batches: from a place on, which is a relation of the level and a choice of the end set, while there is room.
 // Between the places where a batch begins and ends no relation is left out that leads to a word and does not stand in the batch, so that a
 // search over all batches is exact.
+#![tactic(auto)]
 ghost use Rattle.std.specs.Prelude.{◌≡◌, true, ℕ, ◌+◌, ◌*◌, ◌<◌, ◌≤◌, length, get_or};
 ghost use Rattle.automata.specs.Choice.{choices_most};
 ghost use Rattle.stepping.specs.Step.{Kept};
@@ -17,14 +18,14 @@ use sharing::shared_choices;
 use stepping::step_down;
 
 // The choice to go on from, and the relations there are.
-#[derive(Drop)]
+#[derive(Clone, Copy)]
 pub struct Turn {
     pub choice: u8,
     pub count: u16,
 }
 
 // The place to go on from, and the relations there are.
-#[derive(Drop)]
+#[derive(Clone, Copy)]
 pub struct Reached {
     pub place: u32,
     pub count: u16,

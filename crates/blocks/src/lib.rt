@@ -1,1 +1,2 @@
 // Blocks of a walk that remembers: definitions and theorems only.
+#![tactic(auto)]

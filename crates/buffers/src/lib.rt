@@ -1,5 +1,6 @@
 // Every named size of a work buffer and every bound of a set, said once for all crates of code. The contracts' numbers are those of
 // specs/Sizes.antt; the proofs hold both together, and a test holds docs/BUFFERS.md to this file.
+#![tactic(auto)]
 
 // "At most 1,024 states (128 in an end set), 2,048 inner, 1,024 leaves"
 pub const STATES: u16 = 1024;

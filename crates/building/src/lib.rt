@@ -1,5 +1,6 @@
 // Document 01, "What each gate builds": all levels of a gate's result, one after the other from the table of the old set into the rest of lent
 // slices.
+#![tactic(auto)]
 ghost use Rattle.std.specs.Prelude.{◌≡◌, true, false, List, [], ◌∷◌, ℕ, ◌+◌, ◌<◌, ◌≤◌, eqb, length, get_or, take};
 ghost use Rattle.gates.specs.Numbering.{all_rows};
 ghost use Rattle.gates.specs.Roles.{role};
@@ -22,7 +23,7 @@ use names::begin;
 use roles::role_at;
 
 // How many inner transitions, leaves and states may still be written.
-#[derive(Drop)]
+#[derive(Clone, Copy)]
 pub struct Room {
     pub inner: u16,
     pub leaves: u16,
@@ -30,7 +31,7 @@ pub struct Room {
 }
 
 // How many were written, whether they are within what may be, and whether every leaf's coefficients are in their range.
-#[derive(Drop)]
+#[derive(Clone, Copy)]
 pub struct Outcome {
     pub inner: u16,
     pub leaves: u16,

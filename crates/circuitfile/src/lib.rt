@@ -1,4 +1,5 @@
 // The circuit file of document 01, "Stored form": refusals 11 and 12 of a whole file. No public function has a `requires`: a file may be of any length.
+#![tactic(auto)]
 ghost use Rattle.std.specs.Prelude.{◌≡◌, ◌+◌, ◌/◌, ◌≤◌, length};
 ghost use Rattle.stored.specs.Refusal.{refusal, circuit_source};
 ghost use Rattle.stored.specs.Rules.{first_bad};
@@ -13,7 +14,7 @@ use refusals::{CIRCUIT, Refusal};
 const GATES_MOST: usize = 4096;
 
 // How many gates a circuit has, or why it is refused.
-#[derive(Drop)]
+#[derive(Clone, Copy)]
 pub enum CircuitAnswer {
     Good(u16),
     Bad(Refusal),

@@ -1,4 +1,5 @@
 // The circuit file of document 01, "Stored form": which gate a record is. `gate_at` asks only that its record's six bytes are there.
+#![tactic(auto)]
 ghost use Rattle.std.specs.Prelude.{◌≡◌, ◌&&◌, not, cond, ◌+◌, ◌≤◌, min, max, length, eqb};
 ghost use Rattle.gates.specs.Circuit.{gt_size, kind_of, is_qubit, alone, gate_of, gate_at};
 ghost use Rattle.circuits.specs.Answer.{kind_answer, gate_answer};
@@ -13,7 +14,7 @@ const CX: u8 = 9;
 const CZ: u8 = 10;
 
 // Phase j is Z for j = 4, S 2, S† 6, T 1, T† 7; flip j is X for j = 0 and Y for j = 2.
-#[derive(Drop)]
+#[derive(Clone, Copy)]
 pub enum Kind {
     Phase(u8),
     Flip(u8),
@@ -22,21 +23,21 @@ pub enum Kind {
 
 // "a gate is plain with its kind, or controlled with its control and kind": the last number is the target, the first of `Controlled`
 // the control. Qubits count from 1.
-#[derive(Drop)]
+#[derive(Clone, Copy)]
 pub enum Gate {
     Plain(Kind, u8),
     Controlled(u8, Kind, u8),
 }
 
 // The kind that a code has on one qubit, or that it has none.
-#[derive(Drop)]
+#[derive(Clone, Copy)]
 enum KindAnswer {
     Is(Kind),
     Wrong,
 }
 
 // The gate that a record is, or that it is wrong.
-#[derive(Drop)]
+#[derive(Clone, Copy)]
 pub enum GateAnswer {
     Is(Gate),
     Wrong,

@@ -61,6 +61,7 @@ all_first_lem = refl
 
 first_of : (ws : List (List Letter)) → all_first ws ≡ true → {w : List Letter} → Memᴰ w ws → first w ≡ true
 unfolding all_first
+first_of [] t {w = w} x'' = elim x'' [ ]
 first_of (v ∷ ws) t (Memᴰ.head e) = ap first e ∙ (both (first v) (all_first ws) t).0
 first_of (v ∷ ws) t (Memᴰ.tail m) = first_of ws (both (first v) (all_first ws) t).1 m
 

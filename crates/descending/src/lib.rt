@@ -1,5 +1,6 @@
 // Document 01, "What each gate builds": all levels of a gate's result from one level on, "Each level's records go into the rest of the lent
 // table". Two functions in a cycle: one builds a level, the other lends the rest of the slices on for the levels below it.
+#![tactic(auto)]
 ghost use Rattle.std.specs.Prelude.{eqb, take};
 ghost use Rattle.gates.specs.Numbering.{number};
 ghost use Rattle.stepwise.specs.Code.{coded};
@@ -14,7 +15,7 @@ use growing::Most;
 use tables::ROW_WIDTH;
 
 // Where building stands: the level, how many levels of qubits are still to come, how many states the level has, and the number of its first one.
-#[derive(Drop)]
+#[derive(Clone, Copy)]
 pub struct Here {
     pub level: u8,
     pub left: u8,

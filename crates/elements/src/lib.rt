@@ -1,5 +1,6 @@
 // Document 02, request 10: the products of the 24 Clifford elements and their words in H and S, as tables. The proofs hold each table to its rule by
 // one computed test. Both functions ask for numbers below 24.
+#![tactic(auto)]
 mod products;
 mod words;
 
@@ -7,7 +8,6 @@ ghost use Rattle.std.specs.Prelude.{◌≡◌, ◌++◌, ◌<◌, ◌≤◌, len
 ghost use Rattle.cliffords.specs.Elements.{elements_most, then};
 ghost use Rattle.cliffords.specs.Words.{codes_of, letters_most};
 
-use bytes::copy;
 use products::PRODUCTS;
 use words::{LETTERS, WORDS};
 
@@ -37,6 +37,6 @@ pub fn put_word(element: u8, out: &mut [u8]) -> u8
     let letters = letters_of(element);
     let at = element as usize * 6;
     let end = at + letters as usize;
-    copy(&codes[at..end], out);
+    out[..letters as usize].copy_from_slice(&codes[at..end]);
     letters
 }

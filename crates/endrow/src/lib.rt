@@ -1,6 +1,7 @@
 // Document 01, "What each gate builds", at the leaves, record by record: one LF record more behind those written, and what its amplitude is, from the
 // leaves of the table that is read. Leaves over the most that may be end the walk; a coefficient out of its range does not, since refusal 14 comes
 // before 16.
+#![tactic(auto)]
 ghost use Rattle.std.specs.Prelude.{◌≡◌, [], ◌∷◌, ◌+◌};
 ghost use Rattle.amplitude.specs.Amp.{Amp, ω^};
 ghost use Rattle.amplitude.specs.Leaf.{leaf};
@@ -13,7 +14,7 @@ use leafrows::{Amplitude, Ranged, amplitude_at, difference, store, sum, turned};
 use tables::{ROW_WIDTH, put_row};
 
 // How many LF rows are written, whether they are within the most that may be, and whether every coefficient so far is in its range.
-#[derive(Drop)]
+#[derive(Clone, Copy)]
 pub struct Ending {
     pub rows: u16,
     pub ok: bool,

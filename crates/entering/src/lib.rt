@@ -1,6 +1,7 @@
 // The walk that remembers, level by level. At each level it carries a block: the states reached, and relations to end states. Where each word that
 // went on from a block was found from its relations, the block is remembered with the number of its members; met again, all of them pass, and
 // they are counted in one step.
+#![tactic(auto)]
 ghost use Rattle.std.specs.Prelude.{◌≡◌, List, ◌∷◌, ℕ, ◌+◌, ◌<◌, length, get_or};
 ghost use Rattle.automata.specs.Choice.{choices_most};
 ghost use Rattle.matching.specs.Levels.{start_of};

@@ -1,5 +1,6 @@
 // Document 01, "Equal": two amplitudes are compared across k. The one with the smaller k is first multiplied by √2 once per unit of
 // difference, in 64 bits: two such steps are one doubling, so that 64 from a coefficient in range reach at most 2^62.
+#![tactic(auto)]
 ghost use Rattle.std.specs.Prelude.{◌≡◌, ◌-◌, ◌≤◌, ◌+ℤ◌, ◌-ℤ◌, nat_abs};
 ghost use Rattle.amplitude.specs.Amp.{times√2, ◌⊕◌, √2^, same_z, same_a};
 ghost use Rattle.amplitude.specs.Leaf.{leaf, same, k_most};
@@ -9,7 +10,7 @@ ghost use Rattle.equality.specs.Wide.{wide_is, wide_most};
 use leafrows::Amplitude;
 
 // Four numbers of 64 bits.
-#[derive(Drop)]
+#[derive(Clone, Copy)]
 pub struct Wide {
     pub a: i64,
     pub b: i64,

@@ -1,5 +1,6 @@
 // Document 01, "numbered by first mention": a level of a gate's result grows by one record, its children mentioned left first. The records go
 // into the rest of the lent table; where the bounds would be passed the level is given up, since its result is refused.
+#![tactic(auto)]
 ghost use Rattle.std.specs.Prelude.{◌≡◌, false, eqb};
 ghost use Rattle.stepwise.specs.Grow as step;
 ghost use Rattle.growing.specs.Growing.{level_in, Growing, Kept, Grew};
@@ -8,7 +9,7 @@ use names::mention;
 use tables::put_row;
 
 // How many rows of this level are written, how many states of the next one are mentioned, and whether both are within bounds.
-#[derive(Drop)]
+#[derive(Clone, Copy)]
 pub struct Progress {
     pub rows: u16,
     pub keys: u16,
@@ -16,7 +17,7 @@ pub struct Progress {
 }
 
 // How many rows and next states may be, and the number of the first next state.
-#[derive(Drop)]
+#[derive(Clone, Copy)]
 pub struct Most {
     pub rows: u16,
     pub keys: u16,

@@ -1,6 +1,7 @@
 // Which pairs could match at all under the image's word, level by level from the leaves up, each pair with end choices of its own. A pair that
 // could not is met by no word of the end set that fits, so that the search leaves such a choice at once. Marks that say too much would only
 // cost time.
+#![tactic(auto)]
 ghost use Rattle.std.specs.Prelude.{◌≡◌, true, ◌-◌, ◌<◌, ◌≤◌, length, get_or};
 ghost use Rattle.automata.specs.Choice.{choices_most};
 ghost use Rattle.meeting.specs.Met.{is_met, There};

@@ -1,1 +1,2 @@
 // No code: a check's verdict by the set that the gates build (specs/Image.antt).
+#![tactic(auto)]

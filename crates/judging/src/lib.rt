@@ -1,6 +1,7 @@
 // Is a member's tree a state of the end set? The search goes level by level over batches of relations, each of which is looked at once in its
 // batch, however many choices of the end set lead to it. Only where the room is too small for all relations of a level does the search go
 // back, to the place where the last batch ended.
+#![tactic(auto)]
 ghost use Rattle.std.specs.Prelude.{◌≡◌, true, ◌+◌, ◌*◌, ◌≤◌, ◌<◌, length, get_or, take};
 ghost use Rattle.verdict.specs.Search.{searched};
 ghost use Rattle.lookup.specs.Alts.{table_automaton};
@@ -16,7 +17,7 @@ use meeting::{Level, is_met, meet, meet_none};
 use relating::leads;
 
 // The end root to go on from, and the relations there are.
-#[derive(Drop)]
+#[derive(Clone, Copy)]
 pub struct Start {
     pub root: u16,
     pub count: u16,

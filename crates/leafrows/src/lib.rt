@@ -1,12 +1,13 @@
 // Document 01, "Amplitudes": amplitudes by value, and in lent rows of signed 32-bit numbers, four to a leaf.
 // Two coefficients in range may sum to 2,147,483,648, which 32 bits do not hold: sums are made in 64 bits, and then held to the range.
+#![tactic(auto)]
 ghost use Rattle.std.specs.Prelude.{◌≡◌, ◌+◌, ◌*◌, ◌≤◌, nat_abs, neg_ℤ, ◌+ℤ◌, length};
 ghost use Rattle.amplitude.specs.Amp.{amp, timesω, ω^, ◌⊕◌, ◌⊖◌, most, in_range};
 ghost use Rattle.leafrows.specs.Value.{amp_is, InRange, Tested};
 ghost use Rattle.leafrows.specs.Row.{row_amp, row_set};
 
 // "a + bω + cω² + dω³"
-#[derive(Drop)]
+#[derive(Clone, Copy)]
 pub struct Amplitude {
     pub a: i32,
     pub b: i32,
@@ -15,7 +16,7 @@ pub struct Amplitude {
 }
 
 // A sum or a difference, and whether it is in range. Where it is not, the four numbers are zero.
-#[derive(Drop)]
+#[derive(Clone, Copy)]
 pub struct Ranged {
     pub ok: bool,
     pub sum: Amplitude,

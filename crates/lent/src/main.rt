@@ -1,6 +1,7 @@
 // Runs the job *Check* in work buffers that are lent by a caller: one short by one cell, all of just their named sizes, all longer. It prints the reply's
 // kind and number, and for each buffer how many cells from the front are zero and how many after them are as they were: document 01, "After
 // refusal 17 they are unchanged. After any other reply their named size is zero, further bytes unchanged."
+#![tactic(auto)]
 ghost use Rattle.std.specs.Prelude.{◌≤◌, length};
 
 use buffers::{HINTS, MARKS};
@@ -25,7 +26,7 @@ const SET: [u8; 80] = [
 const FLIP: [u8; 6] = [71, 84, 1, 1, 0, 0];
 
 // How many cells of each buffer are lent.
-#[derive(Drop)]
+#[derive(Clone, Copy)]
 struct Sizes {
     met: usize,
     stack: usize,

@@ -14,7 +14,7 @@ pub const FIXED_SIZE: usize = 18;
 const PART_MOST: u32 = 65536;
 
 // Where the input may be read: the allowance, and where the circuit and the end set begin. The start set begins at 18. Else all are 0.
-#[derive(Drop)]
+#[derive(Clone, Copy)]
 pub struct Parts {
     pub ok: bool,
     pub allowance: u32,

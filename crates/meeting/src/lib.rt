@@ -1,5 +1,6 @@
 // Which end states each image state meets, as marks in one lent row: image state s has `wide` words from word s * wide on, and end state e is
 // bit e of them. States of different levels are different numbers, so the pairs of all levels stand in one row, each in its own place.
+#![tactic(auto)]
 ghost use Rattle.std.specs.Prelude.{◌≡◌, ℕ, ◌*◌, ◌≤◌, ◌<◌, length};
 ghost use Rattle.meeting.specs.Met.{place, is_met, There, NextMet, Meeting, Emptied};
 
@@ -7,7 +8,7 @@ use flags::{clear_words, flag_at, set_flag};
 use masks::least_choice;
 
 // The states of one level: the image's from `from` up to below `to`, and the end set's from `start` up to below `stop`.
-#[derive(Drop)]
+#[derive(Clone, Copy)]
 pub struct Level {
     pub from: u16,
     pub to: u16,

@@ -1,5 +1,6 @@
 // Reads each set file that its arguments name, cut at every byte, and then with each single bit of it flipped, and prints for each the refusal's
 // number and place as number@place, 0@0 for a set that is taken. One line for the cuts, then one for each of a byte's eight bits.
+#![tactic(auto)]
 use libc::STDOUT_FILENO;
 use refusals::Refusal;
 use setfile::{Bounds, SetAnswer};

@@ -2,19 +2,20 @@
 // through each bucket's keys, so that a search takes a step or two in the usual case; its answer is exact for any keys, since the key itself is
 // compared. A cell of `heads` or `link` holds a place and one more, or 0 for none: `heads` has the last place of each bucket, `link` for each
 // place the last one before it of the same bucket. `begin` makes the chains and `mention` keeps them.
+#![tactic(auto)]
 ghost use Rattle.std.specs.Prelude.{◌≡◌, ◌+◌, ◌<◌, length, get_or, set, take, replicate};
 ghost use Rattle.names.specs.Chain.{bucket_of, Chained};
 ghost use Rattle.names.specs.Found.{found_in, Numbered};
 
 // The place of a key, or that it was not mentioned.
-#[derive(Drop)]
+#[derive(Clone, Copy)]
 pub enum Found {
     At(u16),
     Nothing,
 }
 
 // The place of a key that was mentioned, and how many keys there are now.
-#[derive(Drop)]
+#[derive(Clone, Copy)]
 pub struct Mentioned {
     pub place: u16,
     pub count: u16,

@@ -1,5 +1,6 @@
 // Document 01, rule 10, for records of either kind: one pass that carries the last state, the least choice that may come next and the choices
 // that this state has used, so that no two records need to be compared again.
+#![tactic(auto)]
 ghost use Rattle.std.specs.Prelude.{◌≡◌, [], ℕ, ◌+◌, ◌*◌, ◌≤◌, length};
 ghost use Rattle.stored.specs.Fields.{records_from};
 ghost use Rattle.stored.specs.Rules.{first_clash};
@@ -10,7 +11,7 @@ use masks::least_choice;
 use records::{Key, key_at};
 
 // What the records passed so far leave. Before the first record all three are 0, and any record fits.
-#[derive(Drop)]
+#[derive(Clone, Copy)]
 pub struct Run {
     pub state: u16,
     pub next: u32,

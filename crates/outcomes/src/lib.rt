@@ -1,5 +1,6 @@
 // How far a check is after some words of a block: the word that ends there, many members in one step, and whether the block is remembered. A member
 // that is found from its block passes without a search, and a block is remembered only where each of its words was found from it.
+#![tactic(auto)]
 ghost use Rattle.std.specs.Prelude.{Bool, true, ◌≡◌, List, ◌∷◌, ℕ, suc, ◌+◌, ◌-◌, ◌≤◌, ◌<◌, length};
 ghost use Rattle.automata.specs.Members.{Member};
 ghost use Rattle.remembering.specs.Memory.{Same, levels_most, Saying, Memory};
@@ -20,7 +21,7 @@ use walking::{Kind, Tally, tick};
 pub const CELLS: u16 = 1024;
 
 // How far the check is after some words of a block, and whether each of them was found from the block.
-#[derive(Drop)]
+#[derive(Clone, Copy)]
 pub struct Outcome {
     pub tally: Tally,
     pub clean: bool,

@@ -1,5 +1,6 @@
 // Document 01, "one transition for each two transitions whose masks meet, with the intersection as mask", in order of least choice: the two rows, one of
 // each state of a pair, that meet at the least of the choices left. Rows of one state share no choice, so the first that has it is the only one.
+#![tactic(auto)]
 ghost use Rattle.std.specs.Prelude.{◌≡◌, ◌+◌, ◌*◌, ◌<◌, ◌≤◌, length};
 ghost use Rattle.automata.specs.Choice.{choices_most, least};
 ghost use Rattle.gates.specs.Roles.{pair_kids};
@@ -26,7 +27,7 @@ fn pick_row(masks: &[u32], from: u16, to: u16, choice: u8) -> u16
 }
 
 // Two rows that meet, one of each state of a pair, and the choices that both have.
-#[derive(Drop)]
+#[derive(Clone, Copy)]
 pub struct Meeting {
     pub i: u16,
     pub j: u16,

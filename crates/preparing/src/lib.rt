@@ -1,5 +1,6 @@
 // All files of a check, before any gate: document 01, "start set 1 to 10, circuit 11 and 12, end set 1 to 10, 13". Good sets are unpacked, the start
 // set into one table and the end set into another.
+#![tactic(auto)]
 ghost use Rattle.std.specs.Prelude.{◌≡◌, List, length};
 ghost use Rattle.automata.specs.Sets.{QSet};
 ghost use Rattle.stored.specs.Refusal.{good};
@@ -17,7 +18,7 @@ use refusals::{END, Refusal, START};
 use setfile::{Bounds, Form, SetAnswer};
 
 // What both sets say of themselves, and how many gates the circuit has.
-#[derive(Drop)]
+#[derive(Clone, Copy)]
 pub struct Files {
     pub form: Form,
     pub count: u16,
@@ -25,7 +26,7 @@ pub struct Files {
 }
 
 // All files are good, or the first refusal.
-#[derive(Drop)]
+#[derive(Clone, Copy)]
 pub enum Prepared {
     Ready(Files),
     Refused(Refusal),

@@ -1,3 +1,2 @@
 pub mod ReadLaws
-pub mod Reader
 pub mod Step

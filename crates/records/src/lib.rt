@@ -1,5 +1,6 @@
 // Document 01, "Stored form": a set's records by value. Each function reads one record at a place whose bytes are there, and looks at no mark.
 // "Reading uses a record reader made of the lent file and the next record's place": every TR and LF record's state and choices are read through one.
+#![tactic(auto)]
 ghost use Rattle.std.specs.Prelude.{◌≡◌, ◌+◌, ◌≤◌, length};
 ghost use Rattle.stored.specs.Form.{lv_size, tr_size, lf_size, count_at};
 ghost use Rattle.records.specs.Read.{key_read, tr_read, lf_read};
@@ -16,14 +17,14 @@ pub const TR_SIZE: usize = 12;
 pub const LF_SIZE: usize = 24;
 
 // What TR and LF records begin with: a state and its choices. The order of records goes by these two alone.
-#[derive(Drop)]
+#[derive(Clone, Copy)]
 pub struct Key {
     pub state: u16,
     pub mask: u32,
 }
 
 // TR: a state, its choices, its left and its right state.
-#[derive(Drop)]
+#[derive(Clone, Copy)]
 pub struct Tr {
     pub state: u16,
     pub mask: u32,
@@ -32,7 +33,7 @@ pub struct Tr {
 }
 
 // LF: a state, its choices and the four coefficients.
-#[derive(Drop)]
+#[derive(Clone, Copy)]
 pub struct Lf {
     pub state: u16,
     pub mask: u32,
@@ -43,7 +44,7 @@ pub struct Lf {
 }
 
 // The lent file, and the next record's place in it.
-#[derive(Drop)]
+#[derive(Clone, Copy)]
 pub struct RecordReader<'a> {
     pub file: &'a [u8],
     pub at: usize,

@@ -1,6 +1,7 @@
 // A reply, as the code hands it on, and the 64 bytes that the C entry writes of it: document 01, "Replies", and docs/REPLY.md. One struct
 // serves every job. `reply_from` of specs/Replied.antt is the struct of a reply of the definitions, and each maker's promise names it.
 // Only `put_bytes` has a `requires`: a reply buffer may be of any length.
+#![tactic(auto)]
 ghost use Rattle.std.specs.Prelude.{◌≡◌, List, [], ◌∷◌, ◌++◌, ℕ, ◌≤◌, length, drop};
 ghost use Rattle.jobs.specs.Reply.{in_places};
 ghost use Rattle.jobs.specs.Entry.{reply_size};
@@ -8,7 +9,6 @@ ghost use Rattle.packing.specs.Written.{at_front};
 ghost use Rattle.replies.specs.Replied.{reply_from, counted, of_refusal, of_made, of_holds, of_fails, of_undecided};
 ghost use Rattle.replies.specs.Laid.{bytes_of, laid, told};
 
-use bytes::copy;
 use putting::put_u32;
 use refusals::Refusal;
 use wiping::zero_front_u8;
@@ -28,7 +28,7 @@ pub const UNDECIDED: u8 = 4;
 pub const REPLY_SIZE: usize = 64;
 
 // The fields of a reply. A kind of reply that does not use one of them has 0 there.
-#[derive(Drop)]
+#[derive(Clone, Copy)]
 pub struct Reply {
     pub kind: u8,
     pub number: u8,
@@ -110,7 +110,7 @@ pub fn put_bytes(out: &mut [u8], bytes: &[u8])
     requires { length bytes.now ≤ length out.old }
     ensures { out.new ≡ at_front bytes.now out.old }
 {
-    copy(bytes, out);
+    out[..bytes.len()].copy_from_slice(bytes);
 }
 
 // The first four bytes: "kind, number, source, a zero byte".

@@ -1,5 +1,6 @@
 // Document 01, "What each gate builds": what a gate does at a level, and the stored keys of a record's two children. All of it by value; no
 // function has a `requires`.
+#![tactic(auto)]
 ghost use Rattle.std.specs.Prelude.{◌≡◌};
 ghost use Rattle.circuits.specs.Answer.{kind_is, gate_is};
 ghost use Rattle.gates.specs.Key.{packed, stored, turned, shifted, pair};
@@ -22,7 +23,7 @@ pub const SHIFTED: u16 = 4;
 
 // What happens at a level: nothing; the right child goes inside; a pair's children change partners; the kind acts on a plain state, or on a
 // state inside.
-#[derive(Drop)]
+#[derive(Clone, Copy)]
 pub enum Role {
     Pass,
     Begin,
@@ -32,14 +33,14 @@ pub enum Role {
 }
 
 // The side of a pair: A + B or A − B.
-#[derive(Drop)]
+#[derive(Clone, Copy)]
 pub enum Side {
     L,
     R,
 }
 
 // The stored keys of both children.
-#[derive(Drop)]
+#[derive(Clone, Copy)]
 pub struct Kids {
     pub left: u64,
     pub right: u64,

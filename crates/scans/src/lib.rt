@@ -1,4 +1,5 @@
 // Document 01, rules 6, 8 and 9, over all records of one kind: a scan says where the first bad record stands.
+#![tactic(auto)]
 ghost use Rattle.std.specs.Prelude.{◌≡◌, ◌+◌, ◌*◌, ◌≤◌, length};
 ghost use Rattle.stored.specs.Fields.{records_from};
 ghost use Rattle.stored.specs.Rules.{first_bad};
@@ -9,7 +10,7 @@ use faults::{lf_ok, tr_fault};
 use fields::mark_at;
 
 // What is asked of each record: the two letters of its mark, rule 8 of a TR record, or rule 9 of an LF record.
-#[derive(Drop)]
+#[derive(Clone, Copy)]
 pub enum Ask {
     Mark(u8, u8),
     Inner,

@@ -1,6 +1,7 @@
 // Document 01, "Stored form" and replies 1 to 10, and document 02, request 2: the set file's public job. It takes any slice of bytes, and answers the
 // header of the set that the bytes hold, or the refusal by the first rule that is broken, with the record that breaks it. The bounds on the counts
 // are the caller's.
+#![tactic(auto)]
 ghost use Rattle.std.specs.Prelude.{◌≡◌, cond, ◌+◌, ◌≤◌, ◌<◌, length, eqb};
 ghost use Rattle.stored.specs.Form.{form_of, set_of, hd_size, trs_at, lfs_at, file_size};
 ghost use Rattle.stored.specs.Rules.{ranges_ok, counts_ok, first_bad, later_marks, of_tr, of_lf, record_no};
@@ -23,7 +24,7 @@ pub const N_MOST: u8 = 20;
 pub const K_MOST: u8 = 64;
 
 // What HD says: n, k and the three counts.
-#[derive(Drop)]
+#[derive(Clone, Copy)]
 pub struct Form {
     pub n: u8,
     pub k: u8,
@@ -33,7 +34,7 @@ pub struct Form {
 }
 
 // The most that each count may be.
-#[derive(Drop)]
+#[derive(Clone, Copy)]
 pub struct Bounds {
     pub states: u16,
     pub inner: u16,
@@ -41,14 +42,14 @@ pub struct Bounds {
 }
 
 // A rule that is broken, and the number of the record that breaks it or 0; the rule's number is 0 where none is.
-#[derive(Drop)]
+#[derive(Clone, Copy)]
 pub struct Broken {
     pub number: u8,
     pub place: u32,
 }
 
 // A set that is taken, with what its HD says, or a refusal.
-#[derive(Drop)]
+#[derive(Clone, Copy)]
 pub enum SetAnswer {
     Good(Form),
     Bad(Refusal),

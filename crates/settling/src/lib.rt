@@ -1,5 +1,6 @@
 // Document 01, replies 14 to 16: what building left of a gate's set is judged, "gate by gate 15, 14, 16 .. (earliest first)", and the set so far
 // after it. Each test is made once and one function picks the number, so their order stands in one place.
+#![tactic(auto)]
 ghost use Rattle.std.specs.Prelude.{◌≡◌, true, ◌+◌, ◌<◌, leb};
 ghost use Rattle.amplitude.specs.Leaf.{k_most};
 ghost use Rattle.stored.specs.Refusal.{refusal, circuit_source};
@@ -17,14 +18,14 @@ use setfile::{Form, K_MOST};
 use tables::fill_first;
 
 // What a gate's result is: a set in the new slices, with its numbers, or a refusal.
-#[derive(Drop)]
+#[derive(Clone, Copy)]
 pub enum GateResult {
     Made(Form),
     Refused(Refusal),
 }
 
 // The set so far: its numbers, and whether the second table holds it; or, where it is not ok, the refusal.
-#[derive(Drop)]
+#[derive(Clone, Copy)]
 pub struct Carry {
     pub form: Form,
     pub second: bool,

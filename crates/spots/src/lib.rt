@@ -1,4 +1,5 @@
 // Where a run through a circuit's gates stands, "gate by gate .. (earliest first)": each step passes one record, and places count from 1.
+#![tactic(auto)]
 ghost use Rattle.std.specs.Prelude.{◌≡◌, ◌+◌, ◌<◌};
 ghost use Rattle.gates.specs.Circuit.{gt_size};
 ghost use Rattle.spots.specs.Spots.{first_spot, next_spot};
@@ -6,7 +7,7 @@ ghost use Rattle.spots.specs.Spots.{first_spot, next_spot};
 use circuits::GT_SIZE;
 
 // How many gates are left, where the record of the next one begins, and its place.
-#[derive(Drop)]
+#[derive(Clone, Copy)]
 pub struct Spot {
     pub left: u16,
     pub at: usize,

@@ -1,6 +1,7 @@
 // Reads each file that its arguments name and prints what reading answers: a set's header, a circuit's number of gates, or the refusal.
 // A name says how a file is read: set-.. as a start set, end-.. as an end set, gates-N-.. as a circuit and one-N-.. as the one-gate job's
 // circuit, both held to N qubits.
+#![tactic(auto)]
 use circuitfile::CircuitAnswer;
 use libc::STDOUT_FILENO;
 use refusals::Refusal;

@@ -1,5 +1,6 @@
 // A member of the image set is tested, as far as the allowance admits: how far the check is, before and after. The definitions of this crate say
 // the members in order, by a walk over choices, and its laws that the check over all of them is document 01's verdict. Crate entering walks.
+#![tactic(auto)]
 ghost use Rattle.std.specs.Prelude.{true, ◌≡◌, ◌+◌, ◌<◌, length, get_or, take};
 ghost use Rattle.automata.specs.Members.{member};
 ghost use Rattle.verdict.specs.Search.{searched};
@@ -13,7 +14,7 @@ use judging::judge;
 use replies::{Reply, fails, holds, undecided};
 
 // The check goes on, a member failed, or the allowance was used up.
-#[derive(Drop)]
+#[derive(Clone, Copy)]
 pub enum Kind {
     Going,
     Failed,
@@ -21,7 +22,7 @@ pub enum Kind {
 }
 
 // How far the check is: the members that passed, with the one that failed counted; and that one's root and word, in 21 places.
-#[derive(Drop)]
+#[derive(Clone, Copy)]
 pub struct Tally {
     pub kind: Kind,
     pub count: u32,

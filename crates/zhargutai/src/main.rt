@@ -1,5 +1,6 @@
 // The program of document 01: reads a job from standard input and prints its one line to standard output. The line is that of crate jobline for
 // the bytes that were read. The status is 0 whatever the line says, refusals included; if the line cannot be written, standard error says so.
+#![tactic(auto)]
 use jobline::job_line;
 use libc::{STDIN_FILENO, STDOUT_FILENO};
 

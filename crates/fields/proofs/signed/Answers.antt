@@ -6,14 +6,11 @@ use mir.Syntax.{w32}
 use mir.Val.{to_z}
 use borrow.Author.Rules.{rules}
 use borrow.Author.Tests.{le-ltb}
-use Rattle.fields.proofs.signed.Statement.{statement}
-use Rattle.fields.proofs.signed.Tie as tie
+use Rattle.fields.proofs.signed.Goals as goal
 
-returns-2 : tie.Need-returns-2
-returns-2 c =
-    let x = c.before.args.x in
+pub returns-else-x-lt2147483648 : goal.returns-else-x-lt2147483648
+returns-else-x-lt2147483648 c =
+    let x = c.args.x in
     let e : 4294967295 - (4294967295 - x) ≡ x = omega arith in
-    ap (to_z w32) e ∙ simp (le-ltb _ _ c.if1.false)
+    ap (to_z w32) e ∙ simp (le-ltb _ _ c.if-x-lt2147483648.false)
 
-pub signed-spec : {M : Type 1} → statement M
-signed-spec = tie.close (tie.spec (λ c. search rules) (λ c. search rules) (λ c. search rules) (λ c. search rules) returns-2)
