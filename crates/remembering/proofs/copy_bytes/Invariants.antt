@@ -1,0 +1,13 @@
+-- The bytes passed are copied. Assumes nothing.
+use Prim.Native.Nat.{◌-◌}
+use borrow.Author.Rules.{rules}
+use Rattle.remembering.proofs.CopyLaws.{Copying, copy_begin, copy_next, copy_all}
+use Rattle.remembering.proofs.copy_bytes.Given as goal
+
+abbrev pub invariant-loop-i : goal.invariant-loop-i
+invariant-loop-i l =
+    Copying l.from l.to l.base l.i l.row l.initial.rows l.rows
+
+abbrev pub decreases-loop-i : goal.decreases-loop-i
+decreases-loop-i l =
+    l.to - l.i

@@ -1,0 +1,13 @@
+-- The cells passed are copied. Assumes nothing.
+use Prim.Native.Nat.{◌-◌}
+use borrow.Author.Rules.{rules}
+use Rattle.remembering.proofs.CopyLaws.{Copying, copy_begin, copy_next, copy_all}
+use Rattle.remembering.proofs.copy_level.Given as goal
+
+abbrev pub invariant-loop-i : goal.invariant-loop-i
+invariant-loop-i l =
+    Copying l.from l.to l.base l.i l.stack l.initial.kept l.kept
+
+abbrev pub decreases-loop-i : goal.decreases-loop-i
+decreases-loop-i l =
+    l.to - l.i

@@ -1,0 +1,14 @@
+-- The cells passed are the same. Assumes nothing.
+use mathlib.Core.Bool.{false≢true}
+use Prim.Native.Nat.{◌-◌}
+use borrow.Author.Rules.{rules}
+use Rattle.remembering.proofs.CopyLaws.{Comparing, begin, next, all}
+use Rattle.remembering.proofs.equal_level.Given as goal
+
+abbrev pub invariant-loop-i : goal.invariant-loop-i
+invariant-loop-i l =
+    Comparing l.from l.to l.base l.i l.stack l.kept
+
+abbrev pub decreases-loop-i : goal.decreases-loop-i
+decreases-loop-i l =
+    l.to - l.i
