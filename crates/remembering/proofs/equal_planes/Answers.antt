@@ -43,7 +43,7 @@ returns-then-not-equal_level c =
 
 pub loop-j-preserved : goal.loop-j-preserved
 loop-j-preserved c =
-    planes-next c.args.from c.args.to c.args.plane c.args.base c.args.stack.now c.args.kept.now c.loop-j.j c.loop-j.invariant (c.equal_level.ensures (not-false _ c.if-not-equal_level.false))
+    planes-next c.args.from c.args.to c.args.plane c.args.base c.args.stack.now c.args.kept.now c.loop-j.j c.loop-j.invariant (c.equal_level.ensures c.if-not-equal_level.false)
 
 
 pub returns : goal.returns

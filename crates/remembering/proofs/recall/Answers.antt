@@ -28,5 +28,5 @@ returns-then-not-same_block c =
 
 pub returns : goal.returns
 returns c =
-    λ some. record { counted = refl; sized = c.if-sizes-cell.false; same = c.same_block.ensures (not-false _ c.if-not-same_block.false) }
+    λ some. record { counted = refl; sized = c.if-sizes-cell.false; same = c.same_block.ensures c.if-not-same_block.false }
 

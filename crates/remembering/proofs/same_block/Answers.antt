@@ -23,5 +23,5 @@ equal_planes-requires c =
 
 pub returns : goal.returns
 returns c =
-    λ e. same_slot c.args.wide c.args.room c.args.cells c.args.k (c.equal_bytes.ensures (not-false _ c.if-not-equal_bytes.false)) (c.equal_planes.ensures e)
+    λ e. same_slot c.args.wide c.args.room c.args.cells c.args.k (c.equal_bytes.ensures c.if-not-equal_bytes.false) (c.equal_planes.ensures e)
 
