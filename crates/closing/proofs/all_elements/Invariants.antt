@@ -1,0 +1,13 @@
+-- `closing::all_elements` meets its contract: the numbers left pass exactly if all do. Assumes nothing.
+use native.Mathlib.Omega.{arith}
+use borrow.Author.Rules.{rules}
+use Rattle.closing.proofs.Loops.{Testing, test-begin, test-found, test_on, test-end}
+use Rattle.closing.proofs.all_elements.Given as goal
+
+abbrev pub invariant-loop-left : goal.invariant-loop-left
+invariant-loop-left l =
+    Testing l.seq l.i l.left
+
+abbrev pub decreases-loop-left : goal.decreases-loop-left
+decreases-loop-left l =
+    l.left

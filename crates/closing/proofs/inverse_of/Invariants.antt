@@ -1,0 +1,12 @@
+-- `closing::inverse_of` meets its contract: the first column in which the identity stands. Assumes nothing.
+use borrow.Author.Rules.{rules}
+use Rattle.closing.proofs.Loops.{Searching, search_begin, search_found, search_on, search_end}
+use Rattle.closing.proofs.inverse_of.Given as goal
+
+abbrev pub invariant-loop-left : goal.invariant-loop-left
+invariant-loop-left l =
+    Searching l.p l.q l.left
+
+abbrev pub decreases-loop-left : goal.decreases-loop-left
+decreases-loop-left l =
+    l.left

@@ -1,0 +1,22 @@
+-- The loop's invariant: the choices left give the records left to add; and both states have rows where a choice is left. The measure is how many
+-- steps are left. Assumes nothing.
+use mathlib.Core.Path.{◌≡◌}
+use mathlib.Core.Bool.{true}
+use Prim.Native.Nat.{◌^◌, ◌<◌}
+use native.Mathlib.Omega.{arith}
+use lib.Bits.{and_le_l, xor_lt}
+use lib.ListN.{get_or}
+use borrow.Author.Rules.{rules}
+use Rattle.automata.proofs.Masks.{least-small}
+use Rattle.ending.proofs.Steps.{OnTheWay, way_begin}
+use Rattle.ending.proofs.Pairs.{pair_left, pair_all, some-rows, pair-begin, pair_on, pair_end_lem, pair_going}
+use Rattle.ending.proofs.end_pair.Given as goal
+
+abbrev pub invariant-loop-left : goal.invariant-loop-left
+invariant-loop-left l =
+    (l.left < 2 ^ 32) × (0 < l.left → (l.qfrom < l.qto) × (l.pfrom < l.pto))
+    × OnTheWay l.initial.rows l.initial.masks l.initial.coefs l.initial.d l.most (pair_all l.src l.choices l.numbers l.qfrom l.qto l.pfrom l.pto l.minus l.state) (pair_left l.src l.choices l.numbers l.qfrom l.qto l.pfrom l.pto l.minus l.state l.steps l.left) l.rows l.masks l.coefs l.d
+
+abbrev pub decreases-loop-left : goal.decreases-loop-left
+decreases-loop-left l =
+    l.steps

@@ -1,0 +1,42 @@
+-- A pair's tag leads to both of its states, and any other to one state, turned by what the tag is over 4. Assumes nothing.
+-- the function's entry, seen from where the key is a pair's
+use native.Mathlib.Omega.{arith}
+use borrow.Author.Rules.{rules}
+use Rattle.stepwise.specs.Code.{tag_in, second_in}
+use Rattle.ending.specs.Source.{LeafState}
+use Rattle.ending.proofs.Keys.{pair-tag, single_key, pair_key}
+use Rattle.ending.proofs.end_state.Goals as goal
+
+-- a pair's second state
+second : (t : goal.Then-tag) → LeafState t.args.src.now t.args.choices.now t.args.numbers.now t.args.first.now t.args.k (second_in t.args.key)
+second t = let g = pair-tag (tag_in t.args.key) t.if-tag.true in t.requires.leaf_key.two g.0 g.1
+
+
+pub bounds-first-p : goal.bounds-first-p
+bounds-first-p c =
+    omega (arith, (second c.before).begun)
+
+
+pub bounds-first-p-then-tag : goal.bounds-first-p-then-tag
+bounds-first-p-then-tag c =
+    omega (arith, (second c.before.before).begun)
+
+
+pub end_pair-requires : goal.end_pair-requires
+end_pair-requires c =
+    let p = second c.before.before.before.before.before in
+    record {
+      leaves = (c.requires.leaf_key.one.leaves, p.leaves);
+      distinct = (c.requires.leaf_key.one.distinct, p.distinct);
+      lent = c.requires.lent;
+    }
+
+pub returns-then-tag : goal.returns-then-tag
+returns-then-tag c =
+    rw (pair_key c.args.src.now c.args.choices.now c.args.numbers.now c.args.first.now c.args.key c.if-tag.true) c.end_pair.ensures
+
+
+pub returns : goal.returns
+returns c =
+    rw (single_key c.args.src.now c.args.choices.now c.args.numbers.now c.args.first.now c.args.key c.if-tag.false) (rw c.Shift-of.ensures at c.end_single.ensures)
+

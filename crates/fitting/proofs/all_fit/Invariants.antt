@@ -1,0 +1,21 @@
+-- All image states so far pass. Assumes nothing.
+-- image state s passes with each end state that it meets
+use mathlib.Core.Path.{◌≡◌, refl, sym, ◌∙◌}
+use mathlib.Core.Bool.{Bool, true}
+use mathlib.Core.List.{List}
+use Prim.Native.Nat.{ℕ, ◌+◌, ◌-◌, ◌<◌, ◌≤◌, max}
+use native.Mathlib.Omega.{arith}
+use borrow.Author.Rules.{rules}
+use borrow.Author.Tests.{not-true, not-false}
+use Rattle.meeting.specs.All.{all_in, met_by, met_in}
+use Rattle.meeting.proofs.AllLaws.{all_none, all_on, all-stops, all_done}
+use Rattle.fitting.specs.Fit.{leaves_in}
+use Rattle.fitting.proofs.all_fit.Given as goal
+
+abbrev pub invariant-loop-s : goal.invariant-loop-s
+invariant-loop-s l =
+    (l.initial.s ≤ l.s) × (l.s ≤ max l.initial.s l.to) × (all_in (F (leaves_in l.rows l.masks l.coefs l.first l.endrows l.endmasks l.endcoefs l.endfirst l.c l.d) l.wide l.met l.start l.stop) l.initial.s (l.s - l.initial.s) ≡ true)
+
+abbrev pub decreases-loop-s : goal.decreases-loop-s
+decreases-loop-s l =
+    l.to - l.s

@@ -1,0 +1,17 @@
+-- All end states so far pass. Assumes nothing.
+use mathlib.Core.Path.{sym, ◌∙◌}
+use Prim.Native.Nat.{◌-◌, ◌≤◌}
+use native.Mathlib.Omega.{arith}
+use borrow.Author.Rules.{rules}
+use borrow.Author.Tests.{not-true, not-false}
+use Rattle.meeting.proofs.NextLaws.{Passing, pass_first, pass_after, pass_next, pass_stops, pass_all}
+use Rattle.fitting.specs.Fit.{leaves_in}
+use Rattle.fitting.proofs.fit_state.Given as goal
+
+abbrev pub invariant-loop-e : goal.invariant-loop-e
+invariant-loop-e l =
+    Passing (leaves_in l.rows l.masks l.coefs l.first l.endrows l.endmasks l.endcoefs l.endfirst l.c l.d) l.wide l.met l.s l.start l.stop l.e
+
+abbrev pub decreases-loop-e : goal.decreases-loop-e
+decreases-loop-e l =
+    l.stop - l.e

@@ -1,0 +1,17 @@
+-- The end states so far are marked. Assumes nothing.
+use mathlib.Core.Path.{◌≡◌, refl, ◌∙◌}
+use Prim.Native.Nat.{ℕ, ◌+◌, ◌-◌, ◌<◌, ◌≤◌}
+use native.Mathlib.Omega.{arith}
+use lib.ListN.{length}
+use borrow.Author.Rules.{rules}
+use Rattle.hinting.specs.Hint.{MarkedRow}
+use Rattle.hinting.proofs.Hints.{row-none, row_more, row-all, pair-again, there-again}
+use Rattle.hinting.proofs.hint_state.Given as goal
+
+abbrev pub invariant-loop-e : goal.invariant-loop-e
+invariant-loop-e l =
+    (l.start ≤ l.e) × (length l.may ≡ length l.initial.may) × MarkedRow l.last l.rows l.masks l.coefs l.first l.endrows l.endmasks l.endcoefs l.endfirst l.c l.wide l.initial.may l.s l.start l.e l.may
+
+abbrev pub decreases-loop-e : goal.decreases-loop-e
+decreases-loop-e l =
+    l.stop - l.e

@@ -1,0 +1,18 @@
+-- Root after root, while there is room. Assumes nothing.
+use mathlib.Core.Path.{◌≡◌, refl, ◌∙◌}
+use Prim.Native.Nat.{◌-◌, ◌≤◌}
+use native.Mathlib.Omega.{arith}
+use lib.ListN.{length}
+use Rattle.meeting.proofs.Places.{words-before}
+use Rattle.relating.proofs.Relations.{turning}
+use Rattle.batching.proofs.Batches.{turned}
+use Rattle.judging.proofs.Starts.{Starting, starting, starting_on, started}
+use Rattle.judging.proofs.begin_from.Given as goal
+
+abbrev pub invariant-loop-e : goal.invariant-loop-e
+invariant-loop-e l =
+    (length l.scratch ≡ length l.initial.scratch) × (l.level.start ≤ l.e) × Starting l.wide l.plane l.room l.may l.initial.stack l.root l.level l.from l.stack l.e l.p
+
+abbrev pub decreases-loop-e : goal.decreases-loop-e
+decreases-loop-e l =
+    l.stop - l.e

@@ -1,0 +1,24 @@
+-- `leveling::grow_level` meets its contract: the states left, from the level held, give what all states give from the level at the start. Assumes
+-- nothing.
+use Prim.Native.Nat.{◌+◌, ◌-◌}
+use native.Mathlib.Omega.{arith}
+use lib.Dec.{eqb}
+use lib.ListN.{get_or, take}
+use Rattle.stepwise.specs.Grow.{grow_state, grow_all}
+use Rattle.roles.specs.Kept.{role_is}
+use Rattle.growing.specs.Growing.{level_in, Kept}
+use Rattle.growing.proofs.Growth.{over-all}
+use Rattle.growing.proofs.Going.{Going, going_first, going_on, going_last, goes_out, kept-all, kept_on}
+use Rattle.moving.specs.Moves.{moves_of}
+use Rattle.leveling.proofs.Turns.{turn, left_from, left-all, left-turn, left-none}
+use Rattle.leveling.proofs.grow_level.Given as goal
+
+abbrev pub invariant-loop-k : goal.invariant-loop-k
+invariant-loop-k l =
+    Going l.rows l.masks l.keys l.link l.heads l.held l.most (left_from l.most.base (moves_of (role_is l.role) l.old l.oldmasks l.first) l.start l.cur l.count l.k)
+    (grow_all eqb l.most.base (moves_of (role_is l.role) l.old l.oldmasks l.first) l.start (take l.count l.cur) (level_in l.initial.rows l.initial.masks l.initial.keys l.initial.held))
+    × Kept l.initial.rows l.initial.masks l.initial.keys l.initial.link l.initial.heads l.rows l.masks l.keys l.link l.heads
+
+abbrev pub decreases-loop-k : goal.decreases-loop-k
+decreases-loop-k l =
+    l.count - l.k

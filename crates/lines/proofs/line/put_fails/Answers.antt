@@ -1,0 +1,41 @@
+-- `lines::line::put_fails` meets its contract: the word `fails`, then the place, the root and the choices, each in the tail that is left.
+-- Assumes nothing.
+use mathlib.Core.Path.{sym}
+use native.Mathlib.Omega.{arith}
+use lib.ListN.{take}
+use lib.Seq.{length-take-le}
+use borrow.Author.Rules.{rules}
+use Rattle.lines.specs.Numeral.{field, fields_of}
+use Rattle.lines.specs.Printed.{fails_name}
+use Rattle.lines.proofs.Putting.{put_whole, put_on, put_as, put_less}
+use Rattle.lines.proofs.Fields.{grouped}
+use Rattle.lines.proofs.line.put_fails.Goals as goal
+
+pub slice_bounds-put_fields-end-2 : goal.slice_bounds-put_fields-end-2
+slice_bounds-put_fields-end-2 c =
+    sym (length-take-le c.args.choices c.args.word.now c.requires.2)
+
+
+pub put_fields-requires : goal.put_fields-requires
+put_fields-requires c =
+    omega (arith, lent-long c)
+
+
+add-result : tie.Need-overflow-add-result
+add-result c =
+    let s = c.before.before in
+    let r = s.before.before.before.before.before in
+    let p = r.before.before.before.before in
+    let d = p.before.before.before.before.before.before.before.before.before in
+    omega (arith, lent-long s.before, s.put-fields.ensures.few, r.put-field2.ensures.few, p.put-field.ensures.few, d.requires.1)
+
+
+pub returns : goal.returns
+returns c =
+    let named = put_whole fails_name c.args.out.now c.put_bytes.ensures in
+    let placed = put_on named (omega arith) c.put_field-root_at.ensures in
+    let rooted = put_on placed (omega arith) c.put_field.ensures in
+    let all = put_on rooted (omega arith) c.put_fields.ensures in
+    put_less (put_as all (grouped fails_name (field c.args.place) (field c.args.root) (fields_of (take c.args.choices c.args.word.now))))
+    111 (omega (arith, all.few, lent-long c.before.before.before))
+

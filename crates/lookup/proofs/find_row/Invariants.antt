@@ -1,0 +1,16 @@
+-- The rows left, from here, give what all of them give. Assumes nothing.
+use mathlib.Core.Path.{◌≡◌, refl, sym, ap, ◌∙◌}
+use Prim.Native.Nat.{◌-◌}
+use borrow.Author.Rules.{rules}
+use Rattle.lookup.specs.Lookup.{row_with}
+use Rattle.lookup.specs.Answer.{found}
+use Rattle.lookup.proofs.Turns.{row_here, row_on, row-none}
+use Rattle.lookup.proofs.find_row.Given as goal
+
+abbrev pub invariant-loop-i : goal.invariant-loop-i
+invariant-loop-i l =
+    row_with l.masks l.choice l.i (l.to - l.i) ≡ row_with l.masks l.choice l.from (l.to - l.from)
+
+abbrev pub decreases-loop-i : goal.decreases-loop-i
+decreases-loop-i l =
+    l.to - l.i

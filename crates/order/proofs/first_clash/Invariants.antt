@@ -1,0 +1,25 @@
+-- What is left of the pass, from here, comes to the whole pass, which finds the first clash. Assumes nothing.
+use mathlib.Core.Path.{◌≡◌, refl, sym, ap, ◌∙◌}
+use mathlib.Core.List.{List, []}
+use Prim.Native.Nat.{ℕ, suc, ◌+◌, ◌-◌, ◌*◌, ◌≤◌}
+use native.Mathlib.Omega.{arith}
+use lib.ListN.{length}
+use borrow.Author.Rules.{rules}
+use borrow.Author.Tests.{not-true, not-false}
+use Rattle.stored.specs.Fields.{records_from}
+use Rattle.stored.specs.Rules.{first_clash}
+use Rattle.records.specs.Read.{bare, key_read}
+use Rattle.records.proofs.Step.{times, passed-one}
+use Rattle.order.specs.declared.Run.{Run}
+use Rattle.order.proofs.PassLaws.{first_unfit, start, pass_clash, unfit_turn, unfit_end}
+use Rattle.order.proofs.first_clash.Given as goal
+
+abbrev pub invariant-loop-left : goal.invariant-loop-left
+invariant-loop-left l =
+    (l.place + l.left * l.size ≤ length l.s)
+    × (l.left ≤ l.count)
+    × (l.count - l.left + first_unfit l.run (records_from (key_read l.s) l.place l.size l.left) ≡ first_unfit start (records_from (key_read l.s) l.at l.size l.count))
+
+abbrev pub decreases-loop-left : goal.decreases-loop-left
+decreases-loop-left l =
+    l.left

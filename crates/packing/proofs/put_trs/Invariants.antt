@@ -1,0 +1,16 @@
+-- `packing::put_trs` meets its contract. The loop's invariant: i records are at the front, and the rest is as it was. Assumes nothing.
+use Prim.Native.Nat.{◌-◌}
+use native.Mathlib.Omega.{arith}
+use Rattle.stored.specs.Pack.{tr_bytes}
+use Rattle.tables.specs.Table.{tr_row, tr_rows}
+use Rattle.packing.proofs.Rows.{tr-sized, Putting, begin, next, all}
+use borrow.Author.Rules.{rules}
+use Rattle.packing.proofs.put_trs.Given as goal
+
+abbrev pub invariant-loop-i : goal.invariant-loop-i
+invariant-loop-i l =
+    Putting 12 tr_bytes (tr_row l.rows l.masks) 0 l.initial.out l.out l.inner l.i
+
+abbrev pub decreases-loop-i : goal.decreases-loop-i
+decreases-loop-i l =
+    l.inner - l.i

@@ -1,0 +1,20 @@
+-- The states so far have their transitions. Assumes nothing.
+use mathlib.Core.Path.{◌≡◌, sym, ◌∙◌}
+use mathlib.Core.Bool.{true}
+use Prim.Native.Nat.{ℕ, ◌-◌, ◌≤◌, max}
+use native.Mathlib.Omega.{arith}
+use borrow.Author.Rules.{rules}
+use borrow.Author.Tests.{not-true, not-false}
+use Rattle.lookup.specs.Lookup.{transition_row, is_some}
+use Rattle.meeting.specs.All.{all_in}
+use Rattle.meeting.proofs.AllLaws.{all_none, all_on, all-stops, all_done}
+use Rattle.reaching.specs.Reached.{if_reached, all_reached}
+use Rattle.reaching.proofs.ends_all.Given as goal
+
+abbrev pub invariant-loop-s : goal.invariant-loop-s
+invariant-loop-s l =
+    (l.from ≤ l.s) × (l.s ≤ max l.from l.to) × (all_in (if_reached (λ (q : ℕ). is_some (transition_row l.masks l.first q l.c)) l.reached) l.from (l.s - l.from) ≡ true)
+
+abbrev pub decreases-loop-s : goal.decreases-loop-s
+decreases-loop-s l =
+    l.to - l.s

@@ -1,0 +1,20 @@
+-- The states so far were walked over. Assumes nothing.
+use mathlib.Core.Path.{◌≡◌, refl}
+use mathlib.Core.Bool.{true}
+use Prim.Native.Nat.{ℕ, ◌-◌, ◌≤◌, max}
+use native.Mathlib.Omega.{arith}
+use lib.ListN.{length}
+use borrow.Author.Rules.{rules}
+use borrow.Author.Tests.{not-true, not-false}
+use Rattle.reaching.specs.Reached.{kids_in, Stage}
+use Rattle.reaching.proofs.Spreads.{Walked, walk_none, walk_all, walk_more, walk_stops, ready-again, stage_state}
+use Rattle.reaching.proofs.reach_states.Given as goal
+
+abbrev pub invariant-loop-s : goal.invariant-loop-s
+invariant-loop-s l =
+    (l.from ≤ l.s) × (l.s ≤ max l.from l.to) × (length l.reached ≡ length l.initial.reached)
+    × ((till : ℕ) → Stage l.rows l.masks l.first (length l.initial.reached) l.from l.to till → Walked (kids_in l.rows l.masks l.first l.c) l.initial.reached l.from l.to till l.s l.reached true)
+
+abbrev pub decreases-loop-s : goal.decreases-loop-s
+decreases-loop-s l =
+    l.to - l.s

@@ -1,0 +1,25 @@
+-- The mask has the choices that all reached states so far have. Assumes nothing.
+-- state s has choice d if it is reached
+use mathlib.Core.Path.{◌≡◌, ap, ◌∙◌}
+use mathlib.Core.Bool.{Bool, true, ◌&&◌}
+use mathlib.Core.List.{List}
+use Prim.Native.Nat.{ℕ, ◌+◌, ◌-◌, ◌<◌, ◌≤◌, max}
+use native.Mathlib.Omega.{arith}
+use borrow.Author.Rules.{rules}
+use Rattle.automata.specs.Choice.{has}
+use Rattle.meeting.specs.All.{all_in}
+use Rattle.sharing.proofs.Shares.{share_none, share_more, share_all, full}
+use Rattle.reaching.specs.Reached.{if_reached, all_reached, has_choice}
+use Rattle.reaching.proofs.reached_choices.Given as goal
+
+abbrev pub F : (masks first reached : List ℕ) (d : ℕ) → ℕ → Bool
+F masks first reached d = if_reached (has_choice masks first d) reached
+
+
+abbrev pub invariant-loop-s : goal.invariant-loop-s
+invariant-loop-s l =
+    (l.from ≤ l.s) × (l.s ≤ max l.from l.to) × ((d : ℕ) → has l.left d ≡ has 4294967295 d && all_in (F l.masks l.first l.reached d) l.from (l.s - l.from))
+
+abbrev pub decreases-loop-s : goal.decreases-loop-s
+decreases-loop-s l =
+    l.to - l.s

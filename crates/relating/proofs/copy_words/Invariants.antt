@@ -1,0 +1,13 @@
+-- Word after word is copied. Assumes nothing.
+use Prim.Native.Nat.{◌-◌}
+use borrow.Author.Rules.{rules}
+use Rattle.relating.proofs.Copies.{Copying, begin, next, all}
+use Rattle.relating.proofs.copy_words.Given as goal
+
+abbrev pub invariant-loop-i : goal.invariant-loop-i
+invariant-loop-i l =
+    Copying l.source l.at l.initial.words l.there l.count l.words l.i
+
+abbrev pub decreases-loop-i : goal.decreases-loop-i
+decreases-loop-i l =
+    l.count - l.i

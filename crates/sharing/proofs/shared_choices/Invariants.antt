@@ -1,0 +1,21 @@
+-- The mask has the choices that the end states of all image states so far have. Assumes nothing.
+-- all end states that image state s meets have choice d
+use mathlib.Core.Path.{◌≡◌, ap, ◌∙◌}
+use mathlib.Core.Bool.{Bool, true, ◌&&◌}
+use mathlib.Core.List.{List}
+use Prim.Native.Nat.{ℕ, ◌+◌, ◌-◌, ◌<◌, ◌≤◌, max}
+use native.Mathlib.Omega.{arith}
+use borrow.Author.Rules.{rules}
+use Rattle.automata.specs.Choice.{has}
+use Rattle.meeting.specs.All.{all_in, met_by, met_in}
+use Rattle.sharing.specs.Shared.{has_choice}
+use Rattle.sharing.proofs.Shares.{share_none, share_more, share_all, full}
+use Rattle.sharing.proofs.shared_choices.Given as goal
+
+abbrev pub invariant-loop-s : goal.invariant-loop-s
+invariant-loop-s l =
+    (l.initial.s ≤ l.s) × (l.s ≤ max l.initial.s l.to) × ((d : ℕ) → has l.left d ≡ has 4294967295 d && all_in (F l.endmasks l.endfirst l.met l.wide l.start l.stop d) l.initial.s (l.s - l.initial.s))
+
+abbrev pub decreases-loop-s : goal.decreases-loop-s
+decreases-loop-s l =
+    l.to - l.s

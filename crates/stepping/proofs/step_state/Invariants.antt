@@ -1,0 +1,24 @@
+-- The end states so far were walked over. Assumes nothing.
+use mathlib.Core.Path.{◌≡◌, refl, sym, ◌∙◌}
+use mathlib.Core.Bool.{Bool, true}
+use Prim.Native.Nat.{ℕ, ◌+◌, ◌-◌, ◌≤◌}
+use native.Mathlib.Omega.{arith}
+use lib.ListN.{length}
+use borrow.Author.Rules.{rules}
+use borrow.Author.Tests.{not-true, not-false}
+use Rattle.meeting.specs.declared.Level.{Level}
+use Rattle.meeting.specs.All.{if_met, met_by}
+use Rattle.meeting.proofs.NextLaws.{Turn, first-turn, next-turn, met_as, if_met_lem, before-first, up_to-next}
+use Rattle.stepping.specs.Step.{kids_in, RowReady, Stepped}
+use Rattle.stepping.proofs.Walks.{walk_true, walk_as, walk_all, walk_more, walk_stops, own-place, ready-again}
+use Rattle.stepping.proofs.step_state.Given as goal
+
+abbrev pub invariant-loop-e : goal.invariant-loop-e
+invariant-loop-e l =
+    Turn l.wide l.initial.met l.s l.start l.stop l.e × (length l.met ≡ length l.initial.met)
+    × ((next : Level) → RowReady l.rows l.masks l.first l.endrows l.endmasks l.endfirst l.wide (length l.initial.met) l.s l.start l.stop next
+    → Stepped l.wide l.initial.met next (λ g. met_by (kids_in l.rows l.masks l.first l.endrows l.endmasks l.endfirst l.c l.d g) l.wide l.initial.met l.s l.start (l.e - l.start)) l.met true)
+
+abbrev pub decreases-loop-e : goal.decreases-loop-e
+decreases-loop-e l =
+    l.stop - l.e

@@ -1,0 +1,17 @@
+-- Each leaf's coefficients are stored at its number, and the earlier rows stay. Assumes nothing.
+use mathlib.Core.Path.{◌≡◌, refl}
+use Prim.Native.Nat.{◌+◌, ◌-◌, ◌*◌, ◌≤◌}
+use native.Mathlib.Omega.{arith}
+use lib.ListN.{length}
+use borrow.Author.Rules.{rules}
+use Rattle.tables.specs.Unpack.{Leaved}
+use Rattle.tables.proofs.Fill.{leaved_more}
+use Rattle.tables.proofs.fill_coefs.Given as goal
+
+abbrev pub invariant-loop-i : goal.invariant-loop-i
+invariant-loop-i l =
+    (l.at ≡ l.start + l.i * 24) × (l.i ≤ l.count) × (length l.coefs ≡ length l.initial.coefs) × Leaved l.file l.start l.i l.coefs
+
+abbrev pub decreases-loop-i : goal.decreases-loop-i
+decreases-loop-i l =
+    l.count - l.i
