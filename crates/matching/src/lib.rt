@@ -1,6 +1,7 @@
 // The search level by level, over the marks of the pairs of an image state and an end state that must match: the definitions that say it on
 // tables, its laws, the next level, and the marks of the pairs that could match at all by a member's word. Crate judging searches by them.
 #![tactic(auto)]
+
 ghost use Rattle.std.specs.Prelude.{◌+◌, length};
 ghost use Rattle.lookup.specs.Alts.{table_automaton};
 ghost use Rattle.matching.specs.Levels.{IsLevel, NextFits};

@@ -15,7 +15,7 @@ loop-i-init c =
 
 pub returns-then-words-at : goal.returns-then-words-at
 returns-then-words-at c =
-    absurd (false≢true h)
+    λ h. absurd (false≢true h)
 
 
 pub loop-i-preserved : goal.loop-i-preserved
@@ -25,5 +25,5 @@ loop-i-preserved c =
 
 pub returns : goal.returns
 returns c =
-    c.loop-i.invariant.1 k (omega (arith, c.loop-i-test.false))
+    λ h k lt. c.loop-i.invariant.1 k (omega (arith, c.loop-i-test.false))
 

@@ -14,10 +14,10 @@ same_words-requires c =
 
 pub returns-then-same_words : goal.returns-then-same_words
 returns-then-same_words c =
-    record { which = c.loop-j.j; before = c.loop-j-test.true; same = rw c.cell.ensures at (c.same_words.ensures c.if-same_words.true) }
+    λ h. record { which = c.loop-j.j; before = c.loop-j-test.true; same = rw c.cell.ensures at (c.same_words.ensures c.if-same_words.true) }
 
 
 pub returns : goal.returns
 returns c =
-    absurd (false≢true h)
+    λ h. absurd (false≢true h)
 

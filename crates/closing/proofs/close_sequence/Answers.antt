@@ -13,16 +13,16 @@ returns-then-seq-gt-SEQUENCE_MOST c =
 
 pub returns-then-not-good : goal.returns-then-not-good
 returns-then-not-good c =
-    c.refused-then-not-good.ensures ∙ ap reply_from (sym (too_large c.args.seq.now (omega (arith, c.if-seq-gt-SEQUENCE_MOST.false)) (sym c.all_elements-good.ensures ∙ turned-true _ c.if-not-good.true)))
+    c.refused-then-not-good.ensures ∙ ap reply_from (sym (too_large c.args.seq.now (omega (arith, c.if-seq-gt-SEQUENCE_MOST.false)) (sym c.all_elements-good.ensures ∙ c.if-not-good.true)))
 
 
 pub all_of-requires : goal.all_of-requires
 all_of-requires c =
-    sym c.all_elements-good.ensures ∙ turned-false _ c.if-not-good.false
+    sym c.all_elements-good.ensures ∙ c.if-not-good.false
 
 
 pub returns : goal.returns
 returns c =
     c.made.ensures
-    ∙ ap reply_from (sym (closed_by c.args.seq.now (omega (arith, c.if-seq-gt-SEQUENCE_MOST.false)) (all-of-requires c.before.before.before c.all_of.lifetimes) c.all_of.ensures.0 c.inverse_of.ensures))
+    ∙ ap reply_from (sym (closed_by c.args.seq.now (omega (arith, c.if-seq-gt-SEQUENCE_MOST.false)) (sym c.all_elements-good.ensures ∙ c.if-not-good.false) c.all_of.ensures.0 c.inverse_of.ensures))
 

@@ -26,29 +26,29 @@ run_gates-done-requires c =
 pub returns-then-not-done : goal.returns-then-not-done
 returns-then-not-done c =
     c.refused.ensures
-    ∙ ap reply_from (gate-refused (bounds_from c.args.room) (set_on c.args.files.form (table_of c.args.arows.now c.args.amasks.now c.args.acoefs.now c.args.acounts.now c.args.afirst.now)) (gates_from c.args.files.form.n c.args.circuit.now 0 c.args.files.count) (set_on c.args.files.endform (table_of c.args.endrows.now c.args.endmasks.now c.args.endcoefs.now c.args.endcounts.now c.args.endfirst.now)) c.args.terms.most _ (first-refusal c.run_gates-done.ensures c.if-not-done.true))
+    ∙ ap reply_from (gate-refused (bounds_from c.args.room) (set_on c.args.files.form (table_of c.args.arows.now c.args.amasks.now c.args.acoefs.now c.args.acounts.now c.args.afirst.now)) (gates_from c.args.files.form.n c.args.circuit.now 0 c.args.files.count) (set_on c.args.files.endform (table_of c.args.endrows.now c.args.endmasks.now c.args.endcoefs.now c.args.endcounts.now c.args.endfirst.now)) c.args.terms.most _ (first-refusal c.run_gates-done.ensures (not-true _ c.if-not-done.true)))
 
 
 pub stride-requires : goal.stride-requires
 stride-requires c =
-    walkable c.requires ((c.run_gates-done.ensures.stands c.if-not-done.false).two c.if-done.true) c.run_gates-done.ensures.qubits
+    walkable c.requires ((c.run_gates-done.ensures.stands (not-false _ c.if-not-done.false)).two c.if-done.true) c.run_gates-done.ensures.qubits
 
 
 pub returns-then-done : goal.returns-then-done
 returns-then-done c =
-    let ok = c.if-not-done.false in
+    let ok = not-false _ c.if-not-done.false in
     c.stride.ensures (walkable c.requires ((c.run_gates-done.ensures.stands ok).two c.if-done.true) c.run_gates-done.ensures.qubits)
     ∙ ap reply_from (all-gates_on c.args.room c.args.files.form (table_of c.args.arows.now c.args.amasks.now c.args.acoefs.now c.args.acounts.now c.args.afirst.now) (gates_from c.args.files.form.n c.args.circuit.now 0 c.args.files.count) (set_on c.args.files.endform (table_of c.args.endrows.now c.args.endmasks.now c.args.endcoefs.now c.args.endcounts.now c.args.endfirst.now)) c.args.terms.most _ c.requires.start c.requires.fit (in_second c.run_gates-done.ensures ok c.if-done.true))
 
 
 pub stride-requires-2 : goal.stride-requires-2
 stride-requires-2 c =
-    walkable c.requires ((c.run_gates-done.ensures.stands c.if-not-done.false).one c.if-done.false) c.run_gates-done.ensures.qubits
+    walkable c.requires ((c.run_gates-done.ensures.stands (not-false _ c.if-not-done.false)).one c.if-done.false) c.run_gates-done.ensures.qubits
 
 
 pub returns : goal.returns
 returns c =
-    let ok = c.if-not-done.false in
+    let ok = not-false _ c.if-not-done.false in
     c.stride-2.ensures (walkable c.requires ((c.run_gates-done.ensures.stands ok).one c.if-done.false) c.run_gates-done.ensures.qubits)
     ∙ ap reply_from (all-gates_on c.args.room c.args.files.form (table_of c.args.arows.now c.args.amasks.now c.args.acoefs.now c.args.acounts.now c.args.afirst.now) (gates_from c.args.files.form.n c.args.circuit.now 0 c.args.files.count) (set_on c.args.files.endform (table_of c.args.endrows.now c.args.endmasks.now c.args.endcoefs.now c.args.endcounts.now c.args.endfirst.now)) c.args.terms.most _ c.requires.start c.requires.fit (in_first c.run_gates-done.ensures ok c.if-done.false))
 

@@ -9,11 +9,6 @@ use Rattle.ending.proofs.Steps.{OnTheWay, going}
 use Rattle.ending.proofs.Keys.{keys_left, keys_all, level-begin, level_on, level-end}
 use Rattle.ending.proofs.end_level.Goals as goal
 
--- in a turn there is a key more, and there are not too many records
-turning : (t : goal.In-loop-i) → (t.loop-i.i < t.args.count) × (t.loop-i.d.ok ≡ true)
-turning t = going t.loop-i.i t.args.count t.loop-i.d.ok t.loop-i-test.true
-
-
 pub loop-i-init : goal.loop-i-init
 loop-i-init c =
     (omega arith, level-begin (ends_of c.args.src.now c.args.choices.now c.args.numbers.now c.args.first.now) c.args.base c.args.cur.now c.args.count c.requires.count_in_bounds.0 c.requires.lent)
@@ -21,25 +16,25 @@ loop-i-init c =
 
 pub bounds-cur-i : goal.bounds-cur-i
 bounds-cur-i c =
-    omega (arith, c.requires.count_in_bounds.0, (turning c.before).0)
+    omega (arith, c.requires.count_in_bounds.0, ((let turning : (c.loop-i.i < c.args.count) × (c.loop-i.d.ok ≡ true) = going c.loop-i.i c.args.count c.loop-i.d.ok c.loop-i-test.true in turning)).0)
 
 
 pub overflow_add-base : goal.overflow_add-base
 overflow_add-base c =
-    omega (arith, c.requires.count_in_bounds.1, (turning c.before.before.before.before).0)
+    omega (arith, c.requires.count_in_bounds.1, ((let turning : (c.loop-i.i < c.args.count) × (c.loop-i.d.ok ≡ true) = going c.loop-i.i c.args.count c.loop-i.d.ok c.loop-i-test.true in turning)).0)
 
 
 pub end_state-d-requires : goal.end_state-d-requires
 end_state-d-requires c =
     record {
-      leaf_key = c.requires.by_index c.loop-i.i (turning c.before.before.before.before).0;
-      lent = c.loop-i.invariant.1.ended.lent (turning c.before.before.before.before).1;
+      leaf_key = c.requires.by_index c.loop-i.i ((let turning : (c.loop-i.i < c.args.count) × (c.loop-i.d.ok ≡ true) = going c.loop-i.i c.args.count c.loop-i.d.ok c.loop-i-test.true in turning)).0;
+      lent = c.loop-i.invariant.1.ended.lent ((let turning : (c.loop-i.i < c.args.count) × (c.loop-i.d.ok ≡ true) = going c.loop-i.i c.args.count c.loop-i.d.ok c.loop-i-test.true in turning)).1;
     }
 
 pub loop-i-preserved : goal.loop-i-preserved
 loop-i-preserved c =
     (
-      omega (arith, (turning c.before.before.before.before.before.before.before.before.before.before).0),
+      omega (arith, ((let turning : (c.loop-i.i < c.args.count) × (c.loop-i.d.ok ≡ true) = going c.loop-i.i c.args.count c.loop-i.d.ok c.loop-i-test.true in turning)).0),
       level_on (ends_of c.args.src.now c.args.choices.now c.args.numbers.now c.args.first.now) c.args.base c.args.cur.now c.args.count c.requires.count_in_bounds.0 c.loop-i.i c.loop-i.invariant.1 c.loop-i-test.taken c.end_state-d.ensures,
     )
 
@@ -50,7 +45,7 @@ returns c =
 
 
 pub overflow_add-i : goal.overflow_add-i
-overflow_add-i c = omega (arith, (turning c.before.before.before.before.before.before.before.before.before.before).0)
+overflow_add-i c = omega (arith, ((let turning : (c.loop-i.i < c.args.count) × (c.loop-i.d.ok ≡ true) = going c.loop-i.i c.args.count c.loop-i.d.ok c.loop-i-test.true in turning)).0)
 
 pub loop-i-smaller : goal.loop-i-smaller
-loop-i-smaller c = omega (arith, (turning c.before.before.before.before.before.before.before.before.before.before).0)
+loop-i-smaller c = omega (arith, ((let turning : (c.loop-i.i < c.args.count) × (c.loop-i.d.ok ≡ true) = going c.loop-i.i c.args.count c.loop-i.d.ok c.loop-i-test.true in turning)).0)

@@ -12,10 +12,6 @@ use Rattle.ending.proofs.Steps.{OnTheWay, way_begin}
 use Rattle.ending.proofs.Pairs.{pair_left, pair_all, some-rows, pair-begin, pair_on, pair_end_lem, pair_going}
 use Rattle.ending.proofs.end_pair.Goals as goal
 
-turning : (t : goal.In-loop-left) → (0 < t.loop-left.left) × (0 < t.loop-left.steps) × (t.loop-left.d.ok ≡ true)
-turning t = pair_going t.loop-left.left t.loop-left.steps t.loop-left.d.ok t.loop-left-test.true
-
-
 pub loop-left-init : goal.loop-left-init
 loop-left-init c =
     (
@@ -27,13 +23,13 @@ loop-left-init c =
 
 pub pick_row-i-requires : goal.pick_row-i-requires
 pick_row-i-requires c =
-    let g = turning c.before in
+    let g = (let turning : (0 < c.loop-left.left) × (0 < c.loop-left.steps) × (c.loop-left.d.ok ≡ true) = pair_going c.loop-left.left c.loop-left.steps c.loop-left.d.ok c.loop-left-test.true in turning) in
     ((c.loop-left.invariant.1 g.0).0, c.requires.leaves.0.long, omega (arith, c.least_choice-c.ensures.0, least-small c.loop-left.left (record { some = g.0; small = c.loop-left.invariant.0 })))
 
 
 pub pick_row-j-requires : goal.pick_row-j-requires
 pick_row-j-requires c =
-    let g = turning c.before.before in
+    let g = (let turning : (0 < c.loop-left.left) × (0 < c.loop-left.steps) × (c.loop-left.d.ok ≡ true) = pair_going c.loop-left.left c.loop-left.steps c.loop-left.d.ok c.loop-left-test.true in turning) in
     ((c.loop-left.invariant.1 g.0).1, c.requires.leaves.1.long, omega (arith, c.least_choice-c.ensures.0, least-small c.loop-left.left (record { some = g.0; small = c.loop-left.invariant.0 })))
 
 
@@ -44,12 +40,12 @@ joined_leaves-x-requires c =
 
 pub put_end-d-requires : goal.put_end-d-requires
 put_end-d-requires c =
-    c.loop-left.invariant.2.ended.lent (turning c.before.before.before.before.before.before.before.before.before).2
+    c.loop-left.invariant.2.ended.lent ((let turning : (0 < c.loop-left.left) × (0 < c.loop-left.steps) × (c.loop-left.d.ok ≡ true) = pair_going c.loop-left.left c.loop-left.steps c.loop-left.d.ok c.loop-left-test.true in turning)).2
 
 
 pub loop-left-preserved : goal.loop-left-preserved
 loop-left-preserved c =
-    let g = turning c.before.before.before.before.before.before.before.before.before.before.before.before.before.before.before in
+    let g = (let turning : (0 < c.loop-left.left) × (0 < c.loop-left.steps) × (c.loop-left.d.ok ≡ true) = pair_going c.loop-left.left c.loop-left.steps c.loop-left.d.ok c.loop-left-test.true in turning) in
     let m = and_le_l (get_or c.args.choices.now c.pick_row-i.result 0) (get_or c.args.choices.now c.pick_row-j.result 0) in (
       xor_lt 32 c.loop-left.left _ c.loop-left.invariant.0 (omega (arith, m, c.shared_slice_known-in-loop-left-1.given c.pick_row-i.result)),
       λ h. c.loop-left.invariant.1 g.0,
@@ -65,7 +61,7 @@ returns c =
 
 
 pub overflow_sub-steps : goal.overflow_sub-steps
-overflow_sub-steps c = omega (arith, (turning c.before.before.before.before.before.before.before.before.before.before.before.before.before.before.before).1)
+overflow_sub-steps c = omega (arith, ((let turning : (0 < c.loop-left.left) × (0 < c.loop-left.steps) × (c.loop-left.d.ok ≡ true) = pair_going c.loop-left.left c.loop-left.steps c.loop-left.d.ok c.loop-left-test.true in turning)).1)
 
 pub loop-left-smaller : goal.loop-left-smaller
-loop-left-smaller c = omega (arith, (turning c.before.before.before.before.before.before.before.before.before.before.before.before.before.before.before).1)
+loop-left-smaller c = omega (arith, ((let turning : (0 < c.loop-left.left) × (0 < c.loop-left.steps) × (c.loop-left.d.ok ≡ true) = pair_going c.loop-left.left c.loop-left.steps c.loop-left.d.ok c.loop-left-test.true in turning)).1)

@@ -12,11 +12,6 @@ use Rattle.ending.proofs.Steps.{OnTheWay, way_begin, going}
 use Rattle.ending.proofs.Singles.{single_on, single-end}
 use Rattle.ending.proofs.end_single.Goals as goal
 
--- in a turn there is a row more, and there are not too many records
-turning : (t : goal.In-loop-i) → (t.loop-i.i < t.args.to) × (t.loop-i.d.ok ≡ true)
-turning t = going t.loop-i.i t.args.to t.loop-i.d.ok t.loop-i-test.true
-
-
 pub loop-i-init : goal.loop-i-init
 loop-i-init c =
     (omega arith, omega (arith, c.requires.leaves.rises), way_begin c.requires.lent)
@@ -24,24 +19,24 @@ loop-i-init c =
 
 pub turned_leaf-x-requires : goal.turned_leaf-x-requires
 turned_leaf-x-requires c =
-    c.requires.leaves.each c.loop-i.i c.loop-i.invariant.0 (turning c).0
+    c.requires.leaves.each c.loop-i.i c.loop-i.invariant.0 ((let turning : (c.loop-i.i < c.args.to) × (c.loop-i.d.ok ≡ true) = going c.loop-i.i c.args.to c.loop-i.d.ok c.loop-i-test.true in turning)).0
 
 
 pub bounds-choices-i : goal.bounds-choices-i
 bounds-choices-i c =
-    omega (arith, c.requires.leaves.long, (turning c.before.before.before.before.before).0)
+    omega (arith, c.requires.leaves.long, ((let turning : (c.loop-i.i < c.args.to) × (c.loop-i.d.ok ≡ true) = going c.loop-i.i c.args.to c.loop-i.d.ok c.loop-i-test.true in turning)).0)
 
 
 pub put_end-d-requires : goal.put_end-d-requires
 put_end-d-requires c =
-    c.loop-i.invariant.2.ended.lent (turning c.before.before.before.before.before).1
+    c.loop-i.invariant.2.ended.lent ((let turning : (c.loop-i.i < c.args.to) × (c.loop-i.d.ok ≡ true) = going c.loop-i.i c.args.to c.loop-i.d.ok c.loop-i-test.true in turning)).1
 
 
 pub loop-i-preserved : goal.loop-i-preserved
 loop-i-preserved c =
     (
       omega (arith, c.loop-i.invariant.0),
-      omega (arith, (turning c.before.before.before.before.before.before.before.before.before.before.before).0),
+      omega (arith, ((let turning : (c.loop-i.i < c.args.to) × (c.loop-i.d.ok ≡ true) = going c.loop-i.i c.args.to c.loop-i.d.ok c.loop-i-test.true in turning)).0),
       single_on c.requires.leaves c.args.shift c.args.state c.loop-i.i c.loop-i.invariant.2 c.loop-i.invariant.0 c.loop-i-test.taken c.turned_leaf-x.ensures c.put_end-d.ensures,
     )
 
@@ -52,7 +47,7 @@ returns c =
 
 
 pub overflow_add-i : goal.overflow_add-i
-overflow_add-i c = omega (arith, (turning c.before.before.before.before.before.before.before.before.before.before.before).0)
+overflow_add-i c = omega (arith, ((let turning : (c.loop-i.i < c.args.to) × (c.loop-i.d.ok ≡ true) = going c.loop-i.i c.args.to c.loop-i.d.ok c.loop-i-test.true in turning)).0)
 
 pub loop-i-smaller : goal.loop-i-smaller
-loop-i-smaller c = omega (arith, (turning c.before.before.before.before.before.before.before.before.before.before.before).0)
+loop-i-smaller c = omega (arith, ((let turning : (c.loop-i.i < c.args.to) × (c.loop-i.d.ok ≡ true) = going c.loop-i.i c.args.to c.loop-i.d.ok c.loop-i-test.true in turning)).0)

@@ -7,24 +7,19 @@ use Rattle.ending.specs.Source.{LeafState}
 use Rattle.ending.proofs.Keys.{pair-tag, single_key, pair_key}
 use Rattle.ending.proofs.end_state.Goals as goal
 
--- a pair's second state
-second : (t : goal.Then-tag) → LeafState t.args.src.now t.args.choices.now t.args.numbers.now t.args.first.now t.args.k (second_in t.args.key)
-second t = let g = pair-tag (tag_in t.args.key) t.if-tag.true in t.requires.leaf_key.two g.0 g.1
-
-
 pub bounds-first-p : goal.bounds-first-p
 bounds-first-p c =
-    omega (arith, (second c.before).begun)
+    omega (arith, ((let second : LeafState c.args.src.now c.args.choices.now c.args.numbers.now c.args.first.now c.args.k (second_in c.args.key) = let g = pair-tag (tag_in c.args.key) c.if-tag.true in c.requires.leaf_key.two g.0 g.1 in second)).begun)
 
 
 pub bounds-first-p-then-tag : goal.bounds-first-p-then-tag
 bounds-first-p-then-tag c =
-    omega (arith, (second c.before.before).begun)
+    omega (arith, ((let second : LeafState c.args.src.now c.args.choices.now c.args.numbers.now c.args.first.now c.args.k (second_in c.args.key) = let g = pair-tag (tag_in c.args.key) c.if-tag.true in c.requires.leaf_key.two g.0 g.1 in second)).begun)
 
 
 pub end_pair-requires : goal.end_pair-requires
 end_pair-requires c =
-    let p = second c.before.before.before.before.before in
+    let p = (let second : LeafState c.args.src.now c.args.choices.now c.args.numbers.now c.args.first.now c.args.k (second_in c.args.key) = let g = pair-tag (tag_in c.args.key) c.if-tag.true in c.requires.leaf_key.two g.0 g.1 in second) in
     record {
       leaves = (c.requires.leaf_key.one.leaves, p.leaves);
       distinct = (c.requires.leaf_key.one.distinct, p.distinct);
@@ -38,5 +33,5 @@ returns-then-tag c =
 
 pub returns : goal.returns
 returns c =
-    rw (single_key c.args.src.now c.args.choices.now c.args.numbers.now c.args.first.now c.args.key c.if-tag.false) (rw c.Shift-of.ensures at c.end_single.ensures)
+    rw (single_key c.args.src.now c.args.choices.now c.args.numbers.now c.args.first.now c.args.key c.if-tag.false) (rw c.shift_of-shift.ensures at c.end_single.ensures)
 

@@ -11,28 +11,6 @@ use Rattle.equality.specs.Wide.{wide_is, wide_most}
 use Rattle.equality.proofs.Growth.{two_steps, within-√2^}
 use Rattle.equality.proofs.raised.Goals as goal
 
-abbrev Turn : Type 0
-Turn = goal.At-loop-done
-
-
-abbrev given : Turn → Amp
-given s = amp_is s.args.x
-
-
--- the units done
-abbrev units : Turn → ℕ
-units s = s.loop-done.done + s.loop-done.done
-
-
--- the product is the given numbers times √2, once per unit done
-come : (s : Turn) → wide_is s.loop-done.product ≡ √2^ (units s) (given s)
-come s = s.loop-done.invariant.1 ∙ ap (√2^ (units s)) s.widened-product.ensures
-
-
-fits : (s : Turn) (d : ℕ) → d ≤ s.args.d → Within wide_most (√2^ d (given s))
-fits s d h = within-√2^ d (given s) (omega arith) (range-within (given s) s.requires.0)
-
-
 as-often : (x : Amp) (m n : ℕ) → m ≡ n → √2^ m x ≡ √2^ n x
 as-often x m n e = ap (λ (d : ℕ). √2^ d x) e
 
@@ -44,7 +22,7 @@ loop-done-init c =
 
 pub doubled-product-requires : goal.doubled-product-requires
 doubled-product-requires c =
-    subst (λ (y : Amp). Within wide_most (y ⊕ y)) (sym (come c.before)) (subst (Within wide_most) (two_steps (units c.before) (given c.before)) (fits c.before (suc (suc (units c.before))) (omega arith)))
+    subst (λ (y : Amp). Within wide_most (y ⊕ y)) (sym ((let come : wide_is c.loop-done.product ≡ √2^ ((c.loop-done.done + c.loop-done.done)) ((amp_is c.args.x)) = c.loop-done.invariant.1 ∙ ap (√2^ ((c.loop-done.done + c.loop-done.done))) c.widened-product.ensures in come))) (subst (Within wide_most) (two_steps ((c.loop-done.done + c.loop-done.done)) ((amp_is c.args.x))) ((let fits : (d : ℕ) → d ≤ c.args.d → Within wide_most (√2^ d ((amp_is c.args.x))) = λ d h. within-√2^ d ((amp_is c.args.x)) (omega arith) (range-within ((amp_is c.args.x)) c.requires.0) in fits) (suc (suc ((c.loop-done.done + c.loop-done.done)))) (omega arith)))
 
 
 -- a doubling is two units
@@ -54,24 +32,24 @@ loop-done-preserved c =
       search rules,
       c.doubled-product.ensures
           ∙ ap (λ (y : Amp). y ⊕ y) c.loop-done.invariant.1
-          ∙ sym (two_steps (units c.before.before) x)
-          ∙ as-often x (suc (suc (units c.before.before))) (c.loop-done.done + 1 + (c.loop-done.done + 1)) (omega arith),
+          ∙ sym (two_steps ((c.loop-done.done + c.loop-done.done)) x)
+          ∙ as-often x (suc (suc ((c.loop-done.done + c.loop-done.done)))) (c.loop-done.done + 1 + (c.loop-done.done + 1)) (omega arith),
     )
 
 
 -- d is odd: the single step
 pub returns-then-d-eq1 : goal.returns-then-d-eq1
 returns-then-d-eq1 c =
-    c.times_root.ensures ∙ ap times√2 (come c.before.before.before) ∙ as-often (given c.before.before.before) (suc (units c.before.before.before)) c.args.d (omega arith)
+    c.times_root.ensures ∙ ap times√2 ((let come : wide_is c.loop-done.product ≡ √2^ ((c.loop-done.done + c.loop-done.done)) ((amp_is c.args.x)) = c.loop-done.invariant.1 ∙ ap (√2^ ((c.loop-done.done + c.loop-done.done))) c.widened-product.ensures in come)) ∙ as-often ((amp_is c.args.x)) (suc ((c.loop-done.done + c.loop-done.done))) c.args.d (omega arith)
 
 
 -- d is even
 pub returns-else-d-eq1 : goal.returns-else-d-eq1
 returns-else-d-eq1 c =
-    come c.before.before ∙ as-often (given c.before.before) (units c.before.before) c.args.d (omega arith)
+    (let come : wide_is c.loop-done.product ≡ √2^ ((c.loop-done.done + c.loop-done.done)) ((amp_is c.args.x)) = c.loop-done.invariant.1 ∙ ap (√2^ ((c.loop-done.done + c.loop-done.done))) c.widened-product.ensures in come) ∙ as-often ((amp_is c.args.x)) ((c.loop-done.done + c.loop-done.done)) c.args.d (omega arith)
 
 
 pub times_root-requires : goal.times_root-requires
 times_root-requires c =
-    subst (λ (y : Amp). Within wide_most (times√2 y)) (sym (come c.before.before)) (fits c.before.before (suc (units c.before.before)) (omega arith))
+    subst (λ (y : Amp). Within wide_most (times√2 y)) (sym ((let come : wide_is c.loop-done.product ≡ √2^ ((c.loop-done.done + c.loop-done.done)) ((amp_is c.args.x)) = c.loop-done.invariant.1 ∙ ap (√2^ ((c.loop-done.done + c.loop-done.done))) c.widened-product.ensures in come))) ((let fits : (d : ℕ) → d ≤ c.args.d → Within wide_most (√2^ d ((amp_is c.args.x))) = λ d h. within-√2^ d ((amp_is c.args.x)) (omega arith) (range-within ((amp_is c.args.x)) c.requires.0) in fits) (suc ((c.loop-done.done + c.loop-done.done))) (omega arith))
 

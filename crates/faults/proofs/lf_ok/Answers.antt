@@ -10,6 +10,6 @@ use Rattle.faults.proofs.lf_ok.Goals as goal
 
 pub returns : goal.returns
 returns c =
-    simp (c.amp_ok-range.ensures, c.level_of_lem.ensures.0) (ok-is c.args.s.now c.args.n c.requires.0 (form_of c.args.s.now).k c.lf_at-l.result)
+    simp (c.amp_ok-range.ensures, c.level_of-own.ensures.0) (ok-is c.args.s.now c.args.n c.requires.0 (form_of c.args.s.now).k c.lf_at-l.result)
     ∙ ap (lf_ok (set_of c.args.s.now)) (ap (lf_of (form_of c.args.s.now).k) c.lf_at-l.ensures ∙ lf_read_lem (form_of c.args.s.now).k c.args.s.now c.args.at)
 

@@ -11,6 +11,6 @@ use Rattle.faults.proofs.tr_fault.Goals as goal
 pub returns : goal.returns
 returns c =
     c.fault_of.ensures
-    ∙ simp (c.level_of-right.ensures.0, c.level_of-left.ensures.0, c.level_of_lem.ensures.0) (fault_is c.args.s.now c.args.n c.requires.0 c.tr_at-t.result)
+    ∙ simp (c.level_of-right.ensures.0, c.level_of-left.ensures.0, c.level_of-own.ensures.0) (fault_is c.args.s.now c.args.n c.requires.0 c.tr_at-t.result)
     ∙ ap (tr_fault (set_of c.args.s.now)) (ap tr_of c.tr_at-t.ensures ∙ tr_read_lem c.args.s.now c.args.at)
 

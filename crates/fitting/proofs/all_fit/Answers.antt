@@ -10,11 +10,8 @@ use borrow.Author.Tests.{not-true, not-false}
 use Rattle.meeting.specs.All.{all_in, met_by, met_in}
 use Rattle.meeting.proofs.AllLaws.{all_none, all_on, all-stops, all_done}
 use Rattle.fitting.specs.Fit.{leaves_in}
+use Rattle.fitting.proofs.all_fit.Invariants.{F}
 use Rattle.fitting.proofs.all_fit.Goals as goal
-
-abbrev F : (ℕ → ℕ → Bool) → ℕ → List ℕ → ℕ → ℕ → ℕ → Bool
-F g wide met start stop s = met_by g wide met s start (stop - start)
-
 
 pub loop-s-init : goal.loop-s-init
 loop-s-init c =

@@ -10,7 +10,7 @@ use Rattle.foreseeing.proofs.foresee_level.Given as goal
 
 abbrev pub invariant-loop-s : goal.invariant-loop-s
 invariant-loop-s l =
-    (l.initial.s ≤ l.s) × (length l.may ≡ length l.initial.may) × ((c : ℕ) → Hinted l.last l.rows l.masks l.coefs l.first l.endrows l.endmasks l.endcoefs l.endfirst c l.wide l.initial.may (record { from = l.initial.s; l.to = l.s; l.start = l.start; l.stop = l.stop }) l.may)
+    (l.initial.s ≤ l.s) × (length l.may ≡ length l.initial.may) × ((c : ℕ) → Hinted l.last l.rows l.masks l.coefs l.first l.endrows l.endmasks l.endcoefs l.endfirst c l.wide l.initial.may (record { from = l.initial.s; to = l.s; start = l.start; stop = l.stop }) l.may)
 
 abbrev pub decreases-loop-s : goal.decreases-loop-s
 decreases-loop-s l =

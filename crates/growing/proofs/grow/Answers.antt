@@ -58,6 +58,6 @@ pub returns : goal.returns
 returns c =
     record {
       grew = grew_more c.requires c.args.state c.args.mask c.args.first c.args.second c.mention-l.ensures c.mention-r.ensures c.put_row.ensures
-          c.if-done-most.false c.if-most-r.false (same-length-4 c) (same-length-5 c);
-      kept = record { rows_long = same-length-4 c; masks_long = same-length-5 c; keys_long = same-length-6 c; link_long = same-length-7 c; heads_long = same-length-8 c };
+          c.if-done-most.false c.if-most-r.false (search rules) (search rules);
+      kept = record { rows_long = search rules; masks_long = search rules; keys_long = search rules; link_long = search rules; heads_long = search rules };
     }

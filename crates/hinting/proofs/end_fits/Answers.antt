@@ -25,11 +25,14 @@ loop-j-preserved c =
     (omega arith, λ q lo hi. go (λ (q : ℕ). same (leaf_of c.args.rows.now c.args.coefs.now c.args.i) (leaf_of c.args.endrows.now c.args.endcoefs.now q)) c.args.from c.loop-j.j c.loop-j.invariant.1 (sym c.fit_rows.ensures ∙ c.if-fit_rows.false) q lo hi (eqb q c.loop-j.j) refl)
   where
     go : (f : ℕ → Bool) (from j : ℕ) → ((q : ℕ) → from ≤ q → q < j → f q ≡ false) → f j ≡ false → (q : ℕ) → from ≤ q → q < j + 1 → (b : Bool) → eqb q j ≡ b → f q ≡ false
-    go f from j h c.before q lo hi true e = ap f (eqb-true q j e) ∙ c.before
-    go f from j h c.before q lo hi false e = h q lo (omega (arith, eqb-false q j e))
+    go f from j h k q lo hi true e = ap f (eqb-true q j e) ∙ k
+    go f from j h k q lo hi false e = h q lo (omega (arith, eqb-false q j e))
 
 
 pub returns : goal.returns
 returns c =
     λ w. absurd (false≢true (sym (c.loop-j.invariant.1 w.row w.after (omega (arith, c.loop-j-test.false, w.before))) ∙ w.fits))
 
+
+pub returns-then-fit_rows : goal.returns-then-fit_rows
+returns-then-fit_rows c = λ w. refl

@@ -25,11 +25,14 @@ loop-j-preserved c =
     (omega arith, λ q lo hi. go (λ (q : ℕ). both_marked c.args.wide c.args.may.now (pair_row c.args.rows.now c.args.i) (pair_row c.args.endrows.now q)) c.args.from c.loop-j.j c.loop-j.invariant.1 (sym c.kids_marked.ensures ∙ c.if-kids_marked.false) q lo hi (eqb q c.loop-j.j) refl)
   where
     go : (f : ℕ → Bool) (from j : ℕ) → ((q : ℕ) → from ≤ q → q < j → f q ≡ false) → f j ≡ false → (q : ℕ) → from ≤ q → q < j + 1 → (b : Bool) → eqb q j ≡ b → f q ≡ false
-    go f from j h c.before q lo hi true e = ap f (eqb-true q j e) ∙ c.before
-    go f from j h c.before q lo hi false e = h q lo (omega (arith, eqb-false q j e))
+    go f from j h k q lo hi true e = ap f (eqb-true q j e) ∙ k
+    go f from j h k q lo hi false e = h q lo (omega (arith, eqb-false q j e))
 
 
 pub returns : goal.returns
 returns c =
     λ w. absurd (false≢true (sym (c.loop-j.invariant.1 w.row w.after (omega (arith, c.loop-j-test.false, w.before))) ∙ w.marked))
 
+
+pub returns-then-kids_marked : goal.returns-then-kids_marked
+returns-then-kids_marked c = λ w. refl

@@ -12,5 +12,5 @@ overflow_cast-result c =
 
 pub returns : goal.returns
 returns c =
-    to_z-of_z (cast-result c) ∙ to_z-of_z c.ranges.z
+    to_z-of_z (overflow_cast-result c) ∙ to_z-of_z c.ranges.z
 

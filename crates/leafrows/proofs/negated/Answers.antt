@@ -19,5 +19,5 @@ overflow_sub-result c =
 
 pub returns : goal.returns
 returns c =
-    to_z-of_z (sub-result c) ∙ negative c.ranges.z
+    to_z-of_z (overflow_sub-result c) ∙ negative c.ranges.z
 

@@ -28,5 +28,5 @@ overflow_add-result c =
 
 pub returns : goal.returns
 returns c =
-    to_z-of_z (add-result c) ∙ total c.ranges.x c.ranges.y
+    to_z-of_z (overflow_add-result c) ∙ total c.ranges.x c.ranges.y
 

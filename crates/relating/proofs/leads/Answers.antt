@@ -14,7 +14,7 @@ use Rattle.relating.proofs.leads.Goals as goal
 
 pub loop-j-init : goal.loop-j-init
 loop-j-init c =
-    absurd (omega arith)
+    λ word at is i lt. absurd (omega arith)
 
 
 pub plane_leads-requires : goal.plane_leads-requires
@@ -25,7 +25,7 @@ plane_leads-requires c =
 
 pub returns-then-plane_leads : goal.returns-then-plane_leads
 returns-then-plane_leads c =
-    sym (below-is _ _ c.loop-j.j c.loop-j-test.true (sym (c.plane_leads.ensures word at is) ∙ c.if-plane_leads.true))
+    λ word at is. sym (below-is _ _ c.loop-j.j c.loop-j-test.true (sym (c.plane_leads.ensures word at is) ∙ c.if-plane_leads.true))
 
 
 pub overflow_add-j : goal.overflow_add-j
@@ -40,10 +40,10 @@ loop-j-smaller c =
 
 pub loop-j-preserved : goal.loop-j-preserved
 loop-j-preserved c =
-    none_on _ (c.loop-j.invariant word at is) (sym (c.plane_leads.ensures word at is) ∙ c.if-plane_leads.false)
+    λ word at is. none_on _ (c.loop-j.invariant word at is) (sym (c.plane_leads.ensures word at is) ∙ c.if-plane_leads.false)
 
 
 pub returns : goal.returns
 returns c =
-    below_none c.args.p _ (λ i lt. c.loop-j.invariant word at is i (omega (arith, c.loop-j-test.false)))
+    λ word at is. below_none c.args.p _ (λ i lt. c.loop-j.invariant word at is i (omega (arith, c.loop-j-test.false)))
 

@@ -15,12 +15,12 @@ lf_number-requires c =
 pub tr_number-requires : goal.tr_number-requires
 tr_number-requires c =
     let most = pass_most c.args.s.now c.trs_at.result tr_size c.args.form.inner in
-    omega (arith, c.first_clash_lem.ensures, c.struct_known-1)
+    omega (arith, c.first_clash-tr.ensures, c.struct_known-1)
 
 
 pub returns : goal.returns
 returns c =
     c.or_else.ensures
-    ∙ simp (c.unless_kept.ensures, c.tr_number.ensures, c.unless_kept-of_lf.ensures, c.lf_number.ensures, c.first_clash-lf.ensures, c.lfs_at.ensures, c.first_clash_lem.ensures, c.trs_at.ensures)
+    ∙ simp (c.unless_kept.ensures, c.tr_number.ensures, c.unless_kept-of_lf.ensures, c.lf_number.ensures, c.first_clash-lf.ensures, c.lfs_at.ensures, c.first_clash-tr.ensures, c.trs_at.ensures)
     (order_is c.args.s.now c.args.form c.requires)
 

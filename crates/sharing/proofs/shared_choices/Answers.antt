@@ -10,11 +10,8 @@ use Rattle.automata.specs.Choice.{has}
 use Rattle.meeting.specs.All.{all_in, met_by, met_in}
 use Rattle.sharing.specs.Shared.{has_choice}
 use Rattle.sharing.proofs.Shares.{share_none, share_more, share_all, full}
+use Rattle.sharing.proofs.shared_choices.Invariants.{F}
 use Rattle.sharing.proofs.shared_choices.Goals as goal
-
-abbrev F : (endmasks endfirst met : List ℕ) (wide start stop d : ℕ) → ℕ → Bool
-F endmasks endfirst met wide start stop d s = met_by (has_choice endmasks endfirst d) wide met s start (stop - start)
-
 
 pub loop-s-init : goal.loop-s-init
 loop-s-init c =

@@ -12,11 +12,8 @@ use Rattle.meeting.specs.declared.Level.{Level}
 use Rattle.meeting.specs.All.{all_in, met_by, met_in}
 use Rattle.stepping.specs.Step.{kids_in, RowReady, Stepped}
 use Rattle.stepping.proofs.Walks.{walk_none, walk_all, walk_more, walk_stops, same_state, row-again, stage-row}
+use Rattle.stepping.proofs.step_states.Invariants.{F}
 use Rattle.stepping.proofs.step_states.Goals as goal
-
-abbrev F : (rows masks first endrows endmasks endfirst met : List ℕ) (wide c d start stop : ℕ) → (ℕ → ℕ → Bool) → ℕ → Bool
-F rows masks first endrows endmasks endfirst met wide c d start stop g s = met_by (kids_in rows masks first endrows endmasks endfirst c d g) wide met s start (stop - start)
-
 
 pub loop-s-init : goal.loop-s-init
 loop-s-init c =

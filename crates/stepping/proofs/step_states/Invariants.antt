@@ -14,6 +14,10 @@ use Rattle.stepping.specs.Step.{kids_in, RowReady, Stepped}
 use Rattle.stepping.proofs.Walks.{walk_none, walk_all, walk_more, walk_stops, same_state, row-again, stage-row}
 use Rattle.stepping.proofs.step_states.Given as goal
 
+abbrev pub F : (rows masks first endrows endmasks endfirst met : List ℕ) (wide c d start stop : ℕ) → (ℕ → ℕ → Bool) → ℕ → Bool
+F rows masks first endrows endmasks endfirst met wide c d start stop g s = met_by (kids_in rows masks first endrows endmasks endfirst c d g) wide met s start (stop - start)
+
+
 abbrev pub invariant-loop-s : goal.invariant-loop-s
 invariant-loop-s l =
     (l.initial.s ≤ l.s) × (l.s ≤ max l.initial.s l.to) × (length l.met ≡ length l.initial.met)

@@ -15,11 +15,9 @@ apply_gate-requires c =
 
 pub returns-then-state : goal.returns-then-state
 returns-then-state c =
-    
-    let told = rw c.if-state.true c.apply_gate.ensures in
     record {
-      value = told.0;
-      holding_on = told.1;
+      value = rw c.if-state.true c.apply_gate.ensures.value;
+      holding_on = rw c.if-state.true c.apply_gate.ensures.holding;
     }
 
 pub apply_gate-requires-2 : goal.apply_gate-requires-2
@@ -33,9 +31,7 @@ apply_gate-requires-2 c =
 
 pub returns : goal.returns
 returns c =
-    
-    let told = rw c.if-state.false c.apply_gate-2.ensures in
     record {
-      value = told.0;
-      holding_on = told.1;
+      value = rw c.if-state.false c.apply_gate-2.ensures.value;
+      holding_on = rw c.if-state.false c.apply_gate-2.ensures.holding;
     }

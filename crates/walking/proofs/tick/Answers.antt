@@ -1,4 +1,4 @@
--- A check that goes on tests the member, if it may. The word, of which a slice is lent, is argument `t19`. Assumes nothing.
+-- A check that goes on tests the member, if it may. The word, of which a slice is lent, is argument `word`. Assumes nothing.
 use mathlib.Core.Path.{sym, ◌∙◌}
 use native.Mathlib.Omega.{arith}
 use borrow.Author.Rules.{rules}
@@ -19,7 +19,7 @@ overflow_add-place c =
 
 pub returns-then-b-place : goal.returns-then-b-place
 returns-then-b-place c =
-    tick_used (passes_in c.args.rows.now c.args.masks.now c.args.coefs.now c.args.first.now c.args.endrows.now c.args.endmasks.now c.args.endcoefs.now c.args.endcounts.now c.args.endfirst.now c.args.n) c.args.b c.args.t c.args.root c.args.t19 c.in-Going.is (omega (arith, c.if-b-place.true))
+    tick_used (passes_in c.args.rows.now c.args.masks.now c.args.coefs.now c.args.first.now c.args.endrows.now c.args.endmasks.now c.args.endcoefs.now c.args.endcounts.now c.args.endfirst.now c.args.n) c.args.b c.args.t c.args.root c.args.word c.in-Going.is (omega (arith, c.if-b-place.true))
 
 
 pub slice_bounds-passes-end : goal.slice_bounds-passes-end
@@ -34,20 +34,20 @@ passes-requires c =
 
 pub returns-then-passes : goal.returns-then-passes
 returns-then-passes c =
-    tick_passed (passes_in c.args.rows.now c.args.masks.now c.args.coefs.now c.args.first.now c.args.endrows.now c.args.endmasks.now c.args.endcoefs.now c.args.endcounts.now c.args.endfirst.now c.args.n) c.args.b c.args.t c.args.root c.args.t19 c.in-Going.is (omega (arith, c.if-b-place.false)) (sym c.passes.ensures ∙ c.if-passes.true)
+    tick_passed (passes_in c.args.rows.now c.args.masks.now c.args.coefs.now c.args.first.now c.args.endrows.now c.args.endmasks.now c.args.endcoefs.now c.args.endcounts.now c.args.endfirst.now c.args.n) c.args.b c.args.t c.args.root c.args.word c.in-Going.is (omega (arith, c.if-b-place.false)) (sym c.passes.ensures ∙ c.if-passes.true)
 
 
 pub returns-else-passes : goal.returns-else-passes
 returns-else-passes c =
-    tick_missed (passes_in c.args.rows.now c.args.masks.now c.args.coefs.now c.args.first.now c.args.endrows.now c.args.endmasks.now c.args.endcoefs.now c.args.endcounts.now c.args.endfirst.now c.args.n) c.args.b c.args.t c.args.root c.args.t19 c.in-Going.is (omega (arith, c.if-b-place.false)) (sym c.passes.ensures ∙ c.if-passes.false)
+    tick_missed (passes_in c.args.rows.now c.args.masks.now c.args.coefs.now c.args.first.now c.args.endrows.now c.args.endmasks.now c.args.endcoefs.now c.args.endcounts.now c.args.endfirst.now c.args.n) c.args.b c.args.t c.args.root c.args.word c.in-Going.is (omega (arith, c.if-b-place.false)) (sym c.passes.ensures ∙ c.if-passes.false)
 
 
 pub returns-in-Failed : goal.returns-in-Failed
 returns-in-Failed c =
-    tick_failed (passes_in c.args.rows.now c.args.masks.now c.args.coefs.now c.args.first.now c.args.endrows.now c.args.endmasks.now c.args.endcoefs.now c.args.endcounts.now c.args.endfirst.now c.args.n) c.args.b c.args.t (member c.args.root c.args.t19) c.in-Failed.is
+    tick_failed (passes_in c.args.rows.now c.args.masks.now c.args.coefs.now c.args.first.now c.args.endrows.now c.args.endmasks.now c.args.endcoefs.now c.args.endcounts.now c.args.endfirst.now c.args.n) c.args.b c.args.t (member c.args.root c.args.word) c.in-Failed.is
 
 
 pub returns-in-Undecided : goal.returns-in-Undecided
 returns-in-Undecided c =
-    tick_undecided (passes_in c.args.rows.now c.args.masks.now c.args.coefs.now c.args.first.now c.args.endrows.now c.args.endmasks.now c.args.endcoefs.now c.args.endcounts.now c.args.endfirst.now c.args.n) c.args.b c.args.t (member c.args.root c.args.t19) c.in-Undecided.is
+    tick_undecided (passes_in c.args.rows.now c.args.masks.now c.args.coefs.now c.args.first.now c.args.endrows.now c.args.endmasks.now c.args.endcoefs.now c.args.endcounts.now c.args.endfirst.now c.args.n) c.args.b c.args.t (member c.args.root c.args.word) c.in-Undecided.is
 

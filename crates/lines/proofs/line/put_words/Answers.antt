@@ -8,7 +8,7 @@ use Rattle.lines.proofs.line.put_words.Goals as goal
 
 pub returns-then-reply-eq-REFUSED : goal.returns-then-reply-eq-REFUSED
 returns-then-reply-eq-REFUSED c =
-    put_as (put_less c.Put-refused.ensures 111 (omega (arith, c.Put-refused.ensures.few)))
+    put_as (put_less c.put_refused.ensures 111 (omega (arith, c.put_refused.ensures.few)))
     (words-refused c.args.reply c.args.choices c.if-reply-eq-REFUSED.true)
 
 

@@ -1,0 +1,32 @@
+-- The marks of the level are cleared, those of the levels below made, and then the level's own. The levels left fall. Assumes nothing.
+use Prim.Native.Nat.{ℕ, ◌-◌, ◌<◌}
+use Rattle.foreseeing.proofs.Grounds.{foresee-again, level-long, levels-small, next-there, last_ground, inner_ground, foresee_next, foreseen_last, foreseen_more}
+use Rattle.matching.proofs.Turns.{one_less}
+use borrow.Author.Rules.{rules}
+use mathlib.Core.Path.{refl, sym, ◌∙◌}
+use native.Mathlib.Omega.{arith}
+use Rattle.foreseeing.proofs.+foresee_from.Goals as goal
+
+pub meet_none-requires : goal.meet_none-requires
+meet_none-requires t c =
+    level-long c.args.left c.requires
+
+pub foresee_level-requires : goal.foresee_level-requires
+foresee_level-requires t c =
+    last_ground (foresee-again c.meet_none.auto.met (sym c.if-left-eq0.true) c.requires)
+
+pub returns-then-left-eq0 : goal.returns-then-left-eq0
+returns-then-left-eq0 t c =
+    foreseen_last c.args.left c.if-left-eq0.true c.requires c.foresee_level.ensures
+
+pub next_level-next-requires : goal.next_level-next-requires
+next_level-next-requires t c =
+    (c.requires.here, next-there (c.args.left - 1) (foresee-again refl (one_less c.args.left c.if-left-eq0.false) c.requires))
+
+pub foresee_level-requires-2 : goal.foresee_level-requires-2
+foresee_level-requires-2 t c =
+    inner_ground (c.args.left - 1) (foresee-again (c.foresee_from.auto.may ∙ c.meet_none.auto.met) (one_less c.args.left c.if-left-eq0.false) c.requires) c.next_level-next.ensures
+
+pub returns : goal.returns
+returns t c =
+    foreseen_more (c.args.left - 1) c.args.left (sym (one_less c.args.left c.if-left-eq0.false)) c.requires c.foresee_from.ensures c.foresee_level-2.ensures

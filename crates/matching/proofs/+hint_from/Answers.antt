@@ -1,0 +1,34 @@
+-- The marks of the level are cleared, those of the levels below made, and then the level's own. The levels left fall. Assumes nothing.
+use Prim.Native.Nat.{ℕ, ◌+◌, ◌-◌, ◌<◌}
+use Rattle.matching.proofs.Sounding.{ground_last, ground_inner, sound_last, sound_more}
+use Rattle.matching.proofs.Turns.{next_fits, long-level, letter-there, letter-small, levels-few, leaf-stage, again, one_less, seek_next, stage}
+use borrow.Author.Rules.{rules}
+use mathlib.Core.Path.{refl, sym, ◌∙◌}
+use native.Mathlib.Omega.{arith}
+use Rattle.matching.proofs.+hint_from.Goals as goal
+
+pub meet_none-requires : goal.meet_none-requires
+meet_none-requires t c =
+    long-level c.args.left c.requires
+
+pub hint_level-requires : goal.hint_level-requires
+hint_level-requires t c =
+    (ground_last (leaf-stage (again c.meet_none.auto.met (sym c.if-left-eq0.true) c.requires)), letter-small c.args.left c.requires)
+
+pub returns-then-left-eq0 : goal.returns-then-left-eq0
+returns-then-left-eq0 t c =
+    sound_last c.args.left c.if-left-eq0.true c.requires c.hint_level.ensures
+
+pub next_level-next-requires : goal.next_level-next-requires
+next_level-next-requires t c =
+    (c.requires.here, next_fits (c.args.left - 1) (again refl (one_less c.args.left c.if-left-eq0.false) c.requires))
+
+pub hint_level-requires-2 : goal.hint_level-requires-2
+hint_level-requires-2 t c = (
+  ground_inner c.args.coefs.now c.args.endcoefs.now (stage (c.args.left - 1) (again (c.hint_from.auto.may ∙ c.meet_none.auto.met) (one_less c.args.left c.if-left-eq0.false) c.requires) c.next_level-next.ensures),
+  letter-small c.args.left c.requires,
+)
+
+pub returns : goal.returns
+returns t c =
+    sound_more (c.args.left - 1) c.args.left (sym (one_less c.args.left c.if-left-eq0.false)) c.requires c.hint_from.ensures c.hint_level-2.ensures
