@@ -33,13 +33,13 @@ pub build_levels-returns-then-not-done : goal.build_levels-returns-then-not-done
 build_levels-returns-then-not-done t c =
     let there : c.args.here.count ≤ length c.args.cur.now = omega (arith, c.requires.lists.here, c.requires.rest.few) in
     let more : 0 < c.args.here.left = omega (arith, c.if-here-eq0.false) in
-    gave_up c.too_many.ensures (level-over c.args.old.now c.args.oldmasks.now c.args.numbers.now c.args.first.now (gate_is c.args.g) c.args.room c.args.here.level c.args.here.left c.args.here.start c.args.here.count c.args.cur.now more there c.one_level-done.ensures.grew c.if-not-done.true)
+    gave_up c.too_many.ensures (level-over c.args.old.now c.args.oldmasks.now c.args.numbers.now c.args.first.now (gate_is c.args.g) c.args.room c.args.here.level c.args.here.left c.args.here.start c.args.here.count c.args.cur.now more there c.one_level-done.ensures.grew (not-true _ c.if-not-done.true))
 
 pub build_levels-rest_levels-below-requires : goal.build_levels-rest_levels-below-requires
 build_levels-rest_levels-below-requires t c =
     let there : c.args.here.count ≤ length c.args.cur.now = omega (arith, c.requires.lists.here, c.requires.rest.few) in
     let more : 0 < c.args.here.left = omega (arith, c.if-here-eq0.false) in
-    let ok = c.if-not-done.false in
+    let ok = not-false _ c.if-not-done.false in
     let g = c.one_level-done.ensures.grew.growing ok in (
       omega (arith, c.decreases, c.if-here-eq0.false),
       (next_going c.args.old.now c.args.oldmasks.now c.args.numbers.now c.args.first.now (gate_is c.args.g) c.args.room c.args.here.level c.args.here.left c.args.here.start c.args.here.count c.args.cur.now more there c.one_level-done.ensures.grew ok c.requires.going, (lists_on c.one_level-done.ensures.kept c.requires.lists c.requires.rest.few, rest_on c.one_level-done.ensures.kept c.requires.rest more g.rows_few g.keys_few)),
@@ -49,7 +49,7 @@ pub build_levels-returns : goal.build_levels-returns
 build_levels-returns t c =
     let there : c.args.here.count ≤ length c.args.cur.now = omega (arith, c.requires.lists.here, c.requires.rest.few) in
     let more : 0 < c.args.here.left = omega (arith, c.if-here-eq0.false) in
-    let ok = c.if-not-done.false in
+    let ok = not-false _ c.if-not-done.false in
     let g = c.one_level-done.ensures.grew.growing ok in
     climbed c.args.old.now c.args.oldmasks.now c.args.numbers.now c.args.first.now (gate_is c.args.g) c.args.room c.args.here.level c.args.here.left c.args.here.start c.args.here.count c.args.cur.now more there c.one_level-done.ensures.grew ok c.args.counts.now c.requires.rest.few g.rows_few (omega (arith, c.requires.rest.counted)) (omega (arith, g.wide, g.rows_few)) (omega (arith, g.long, g.rows_few))
     c.rest_levels-below.ensures c.topped.ensures

@@ -35,7 +35,7 @@ pub loop-i-preserved : goal.loop-i-preserved
 loop-i-preserved c =
     (
       omega (arith, ((let turning : (c.loop-i.i < c.args.count) × (c.loop-i.d.ok ≡ true) = going c.loop-i.i c.args.count c.loop-i.d.ok c.loop-i-test.true in turning)).0),
-      level_on (ends_of c.args.src.now c.args.choices.now c.args.numbers.now c.args.first.now) c.args.base c.args.cur.now c.args.count c.requires.count_in_bounds.0 c.loop-i.i c.loop-i.invariant.1 c.loop-i-test.taken c.end_state-d.ensures,
+      level_on (ends_of c.args.src.now c.args.choices.now c.args.numbers.now c.args.first.now) c.args.base c.args.cur.now c.args.count c.requires.count_in_bounds.0 c.loop-i.i c.loop-i.invariant.1 c.loop-i-test.true c.end_state-d.ensures,
     )
 
 

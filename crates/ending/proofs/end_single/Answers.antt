@@ -37,7 +37,7 @@ loop-i-preserved c =
     (
       omega (arith, c.loop-i.invariant.0),
       omega (arith, ((let turning : (c.loop-i.i < c.args.to) × (c.loop-i.d.ok ≡ true) = going c.loop-i.i c.args.to c.loop-i.d.ok c.loop-i-test.true in turning)).0),
-      single_on c.requires.leaves c.args.shift c.args.state c.loop-i.i c.loop-i.invariant.2 c.loop-i.invariant.0 c.loop-i-test.taken c.turned_leaf-x.ensures c.put_end-d.ensures,
+      single_on c.requires.leaves c.args.shift c.args.state c.loop-i.i c.loop-i.invariant.2 c.loop-i.invariant.0 c.loop-i-test.true c.turned_leaf-x.ensures c.put_end-d.ensures,
     )
 
 

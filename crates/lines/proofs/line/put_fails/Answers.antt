@@ -18,16 +18,12 @@ slice_bounds-put_fields-end-2 c =
 
 pub put_fields-requires : goal.put_fields-requires
 put_fields-requires c =
-    omega (arith, lent-long c)
+    omega (arith, (length-take-le c.args.choices c.args.word.now c.requires.2))
 
 
-add-result : tie.Need-overflow-add-result
-add-result c =
-    let s = c.before.before in
-    let r = s.before.before.before.before.before in
-    let p = r.before.before.before.before in
-    let d = p.before.before.before.before.before.before.before.before.before in
-    omega (arith, lent-long s.before, s.put-fields.ensures.few, r.put-field2.ensures.few, p.put-field.ensures.few, d.requires.1)
+pub overflow_add-result : goal.overflow_add-result
+overflow_add-result c =
+    omega (arith, (length-take-le c.args.choices c.args.word.now c.requires.2), c.put_fields.ensures.few, c.put_field.ensures.few, c.put_field-root_at.ensures.few, c.requires.1)
 
 
 pub returns : goal.returns
@@ -37,5 +33,5 @@ returns c =
     let rooted = put_on placed (omega arith) c.put_field.ensures in
     let all = put_on rooted (omega arith) c.put_fields.ensures in
     put_less (put_as all (grouped fails_name (field c.args.place) (field c.args.root) (fields_of (take c.args.choices c.args.word.now))))
-    111 (omega (arith, all.few, lent-long c.before.before.before))
+    111 (omega (arith, all.few, (length-take-le c.args.choices c.args.word.now c.requires.2)))
 
