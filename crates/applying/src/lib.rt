@@ -1,6 +1,7 @@
 // Document 01, "What each gate builds" and replies 14 to 16: one gate from the table of the old set to a table of its own. The old slices are read
 // only; what the new ones held before does not matter, and after a refusal what they hold does not matter either.
 #![tactic(auto)]
+
 ghost use Rattle.std.specs.Prelude.{◌≡◌, map, ◌≤◌, length, take};
 ghost use Rattle.automata.specs.Sets.{QSet};
 ghost use Rattle.automata.specs.Members.{up_to};

@@ -2,6 +2,7 @@
 // Between the places where a batch begins and ends no relation is left out that leads to a word and does not stand in the batch, so that a
 // search over all batches is exact.
 #![tactic(auto)]
+
 ghost use Rattle.std.specs.Prelude.{◌≡◌, true, ℕ, ◌+◌, ◌*◌, ◌<◌, ◌≤◌, length, get_or};
 ghost use Rattle.automata.specs.Choice.{choices_most};
 ghost use Rattle.stepping.specs.Step.{Kept};

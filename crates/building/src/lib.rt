@@ -1,6 +1,7 @@
 // Document 01, "What each gate builds": all levels of a gate's result, one after the other from the table of the old set into the rest of lent
 // slices.
 #![tactic(auto)]
+
 ghost use Rattle.std.specs.Prelude.{◌≡◌, true, false, List, [], ◌∷◌, ℕ, ◌+◌, ◌<◌, ◌≤◌, eqb, length, get_or, take};
 ghost use Rattle.gates.specs.Numbering.{all_rows};
 ghost use Rattle.gates.specs.Roles.{role};

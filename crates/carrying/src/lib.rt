@@ -1,6 +1,7 @@
 // Document 01, "gate by gate 15, 14, 16 .. (earliest first)": a circuit's gates one after the other on a set in lent slices. There are two tables; each
 // gate goes from the one that holds the set to the other, and the first gate that is refused ends it.
 #![tactic(auto)]
+
 ghost use Rattle.std.specs.Prelude.{◌≡◌, ◌+◌, ◌≤◌, length};
 ghost use Rattle.std.proofs.Math.Option.{some};
 ghost use Rattle.gates.specs.Circuit.{gt_size, gate_at};

@@ -1,6 +1,7 @@
 // The check's phases one after the other, over any bounds that fit its arrays: all files, then the gates, then the verdict. The tables of both sets
 // are arrays of its own.
 #![tactic(auto)]
+
 ghost use Rattle.std.specs.Prelude.{◌≡◌};
 ghost use Rattle.replies.specs.Replied.{reply_from};
 ghost use Rattle.setfile.specs.Answer.{bounds_of};

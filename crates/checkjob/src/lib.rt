@@ -1,6 +1,7 @@
 // Document 01, the job *Check*: "start, circuit, end, allowance B (32 bits, unsigned), work buffers whose sizes docs/ names". It tests the lent
 // buffers' sizes, lends just their named sizes to the work, and leaves these at zero (docs/BUFFERS.md). Tables and keys are arrays of its own.
 #![tactic(auto)]
+
 ghost use Rattle.std.specs.Prelude.{◌≡◌, ◌&&◌, leb, length, replicate};
 ghost use Rattle.jobs.specs.Buffers.{wiped_all};
 ghost use Rattle.jobs.specs.Check.{check_answer, check_reply, check_work};

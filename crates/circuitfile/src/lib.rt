@@ -1,5 +1,6 @@
 // The circuit file of document 01, "Stored form": refusals 11 and 12 of a whole file. No public function has a `requires`: a file may be of any length.
 #![tactic(auto)]
+
 ghost use Rattle.std.specs.Prelude.{◌≡◌, ◌+◌, ◌/◌, ◌≤◌, length};
 ghost use Rattle.stored.specs.Refusal.{refusal, circuit_source};
 ghost use Rattle.stored.specs.Rules.{first_bad};

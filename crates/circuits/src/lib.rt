@@ -1,5 +1,6 @@
 // The circuit file of document 01, "Stored form": which gate a record is. `gate_at` asks only that its record's six bytes are there.
 #![tactic(auto)]
+
 ghost use Rattle.std.specs.Prelude.{◌≡◌, ◌&&◌, not, cond, ◌+◌, ◌≤◌, min, max, length, eqb};
 ghost use Rattle.gates.specs.Circuit.{gt_size, kind_of, is_qubit, alone, gate_of, gate_at};
 ghost use Rattle.circuits.specs.Answer.{kind_answer, gate_answer};

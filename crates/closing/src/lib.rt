@@ -1,6 +1,7 @@
 // Document 02, request 10: the closing element of a sequence, and an element spelled in H and S. `close_sequence` and `spell` are public and ask for
 // nothing: whatever the bytes and the number are, the answer is a reply.
 #![tactic(auto)]
+
 ghost use Rattle.std.specs.Prelude.{◌≡◌, true, ◌<◌};
 ghost use Rattle.replies.specs.Replied.{reply_from};
 ghost use Rattle.cliffords.specs.Elements.{elements_most};

@@ -1,6 +1,7 @@
 // The gates of a check whose files are all good, and then its verdict: document 01, "then gate by gate 15, 14, 16", and the members of the image, in
 // order, up to the allowance. The gates' second table and their keys are arrays of its own.
 #![tactic(auto)]
+
 ghost use Rattle.std.specs.Prelude.{◌≡◌};
 ghost use Rattle.jobs.specs.Check.{ready};
 ghost use Rattle.replies.specs.Replied.{reply_from};

@@ -1,16 +1,13 @@
 -- What a level hands on to the levels below it: lists of keys, and the rest of the slices. Assumes nothing.
 use mathlib.Core.Path.{◌≡◌, subst}
-use mathlib.Core.Bool.{true}
 use mathlib.Core.List.{List}
 use Prim.Native.Nat.{ℕ, ◌+◌, ◌-◌, ◌*◌, ◌<◌, ◌≤◌}
 use native.Mathlib.Omega.{arith}
 use lib.IntN.{ℤ}
 use lib.ListN.{length, take, drop, set, length-set}
 use Rattle.gates.specs.Numbering.{Built}
-use Rattle.growing.specs.Growing.{Growing, Kept}
-use Rattle.growing.specs.declared.Progress.{Progress}
-use Rattle.growing.specs.declared.Most.{Most}
-use Rattle.building.specs.Whole.{Wide, Whole, Below}
+use Rattle.growing.specs.Growing.{Kept}
+use Rattle.building.specs.Whole.{Whole}
 use Rattle.building.specs.Going.{Lists, Rest, Past}
 use Rattle.building.specs.declared.Room.{Room}
 use Rattle.building.specs.declared.Outcome.{Outcome}

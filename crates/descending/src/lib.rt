@@ -1,6 +1,7 @@
 // Document 01, "What each gate builds": all levels of a gate's result from one level on, "Each level's records go into the rest of the lent
 // table". Two functions in a cycle: one builds a level, the other lends the rest of the slices on for the levels below it.
 #![tactic(auto)]
+
 ghost use Rattle.std.specs.Prelude.{eqb, take};
 ghost use Rattle.gates.specs.Numbering.{number};
 ghost use Rattle.stepwise.specs.Code.{coded};

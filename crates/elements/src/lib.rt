@@ -1,6 +1,7 @@
 // Document 02, request 10: the products of the 24 Clifford elements and their words in H and S, as tables. The proofs hold each table to its rule by
 // one computed test. Both functions ask for numbers below 24.
 #![tactic(auto)]
+
 mod products;
 mod words;
 

@@ -1,6 +1,7 @@
 // Document 01, "What each gate builds", at the leaves: the LF records of the last level, written into the rest of a lent table. The table read
 // is not changed. Leaves over the most that may be end the walk; a coefficient out of its range does not, since refusal 14 comes before 16.
 #![tactic(auto)]
+
 ghost use Rattle.std.specs.Prelude.{◌≡◌, ℕ, ◌+◌, ◌-◌, ◌≤◌, ◌<◌, length, get_or, take};
 ghost use Rattle.amplitude.specs.Leaf.{turn};
 ghost use Rattle.automata.specs.Choice.{choices_most, map_alt, together};

@@ -2,6 +2,7 @@
 // leaves of the table that is read. Leaves over the most that may be end the walk; a coefficient out of its range does not, since refusal 14 comes
 // before 16.
 #![tactic(auto)]
+
 ghost use Rattle.std.specs.Prelude.{◌≡◌, [], ◌∷◌, ◌+◌};
 ghost use Rattle.amplitude.specs.Amp.{Amp, ω^};
 ghost use Rattle.amplitude.specs.Leaf.{leaf};

@@ -1,6 +1,7 @@
 // Document 01, "Equal": two amplitudes are compared across k. The one with the smaller k is first multiplied by √2 once per unit of
 // difference, in 64 bits: two such steps are one doubling, so that 64 from a coefficient in range reach at most 2^62.
 #![tactic(auto)]
+
 ghost use Rattle.std.specs.Prelude.{◌≡◌, ◌-◌, ◌≤◌, ◌+ℤ◌, ◌-ℤ◌, nat_abs};
 ghost use Rattle.amplitude.specs.Amp.{times√2, ◌⊕◌, √2^, same_z, same_a};
 ghost use Rattle.amplitude.specs.Leaf.{leaf, same, k_most};

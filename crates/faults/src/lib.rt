@@ -1,6 +1,7 @@
 // Document 01, rules 8 and 9: what is asked of one TR record and of one LF record of a set file. Each function asks that the LV records and
 // the record itself are there, and looks at no mark.
 #![tactic(auto)]
+
 ghost use Rattle.std.specs.Prelude.{◌≡◌, ◌+◌, ◌≤◌, length};
 ghost use Rattle.amplitude.specs.Amp.{in_range, in_range_a};
 ghost use Rattle.stored.specs.Form.{form_of, set_of, tr_size, lf_size, tr_at, lf_at};

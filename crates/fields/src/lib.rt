@@ -1,5 +1,6 @@
 // Document 01, "Stored form": little-endian numbers and marks out of a slice of bytes. Each function asks that its bytes are there.
 #![tactic(auto)]
+
 ghost use Rattle.std.specs.Prelude.{◌≡◌, ◌+◌, ◌≤◌, ◌<◌, length};
 ghost use Rattle.stored.specs.Fields.{u16_at, u32_at, signed32, i32_at, mark_at};
 

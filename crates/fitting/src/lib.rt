@@ -1,5 +1,6 @@
 // The last level: every pair that is met must have equal leaves, under one choice of the image's word and one of the end set.
 #![tactic(auto)]
+
 ghost use Rattle.std.specs.Prelude.{◌≡◌, ◌-◌, ◌<◌, length};
 ghost use Rattle.amplitude.specs.Leaf.{same};
 ghost use Rattle.automata.specs.Choice.{choices_most};

@@ -1,5 +1,6 @@
 // Many yes or no marks in a lent row of 32-bit words: mark i is bit i % 32 of word i / 32.
 #![tactic(auto)]
+
 ghost use Rattle.std.specs.Prelude.{◌≡◌, ◌*◌, ◌≤◌, ◌<◌, length};
 ghost use Rattle.flags.specs.Flags.{flag_at, with_bit, Flagged, Cleared};
 

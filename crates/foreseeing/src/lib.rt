@@ -1,6 +1,7 @@
 // Which pairs could match by any words at all, level by level from the leaves up, each pair with choices of its own on both sides. A walk over
 // members leaves out a pair that could not: no word brings it to equal trees. Marks that say too much would only cost time.
 #![tactic(auto)]
+
 ghost use Rattle.std.specs.Prelude.{◌≡◌, true, ℕ, ◌+◌, length};
 ghost use Rattle.lookup.specs.Alts.{table_automaton};
 ghost use Rattle.meeting.specs.Met.{There};

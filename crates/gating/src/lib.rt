@@ -1,6 +1,7 @@
 // Document 01, the job *One gate*, in slices that are long enough and over any bounds: the set is read and unpacked, its gate applied from one table
 // to another, and the new set written to the output.
 #![tactic(auto)]
+
 ghost use Rattle.std.specs.Prelude.{◌≡◌, ◌≤◌, length};
 ghost use Rattle.stored.specs.Rules.{n_most};
 ghost use Rattle.stored.specs.Pack.{file_of};

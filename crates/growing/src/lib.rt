@@ -1,6 +1,7 @@
 // Document 01, "numbered by first mention": a level of a gate's result grows by one record, its children mentioned left first. The records go
 // into the rest of the lent table; where the bounds would be passed the level is given up, since its result is refused.
 #![tactic(auto)]
+
 ghost use Rattle.std.specs.Prelude.{◌≡◌, false, eqb};
 ghost use Rattle.stepwise.specs.Grow as step;
 ghost use Rattle.growing.specs.Growing.{level_in, Growing, Kept, Grew};

@@ -2,6 +2,7 @@
 // could not is met by no word of the end set that fits, so that the search leaves such a choice at once. Marks that say too much would only
 // cost time.
 #![tactic(auto)]
+
 ghost use Rattle.std.specs.Prelude.{◌≡◌, true, ◌-◌, ◌<◌, ◌≤◌, length, get_or};
 ghost use Rattle.automata.specs.Choice.{choices_most};
 ghost use Rattle.meeting.specs.Met.{is_met, There};

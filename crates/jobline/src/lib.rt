@@ -1,6 +1,7 @@
 // The program's line for an input of any length: document 01, "It prints one line". `job_line`, the only public function, asks nothing of its
 // caller; the check that it calls has buffers of its own.
 #![tactic(auto)]
+
 ghost use Rattle.std.specs.Prelude.{◌≡◌, true, ◌+◌, ◌≤◌, get_or, length};
 ghost use Rattle.stored.specs.Rules.{n_most};
 ghost use Rattle.jobs.specs.Reply.{word_places};

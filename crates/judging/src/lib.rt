@@ -2,6 +2,7 @@
 // batch, however many choices of the end set lead to it. Only where the room is too small for all relations of a level does the search go
 // back, to the place where the last batch ended.
 #![tactic(auto)]
+
 ghost use Rattle.std.specs.Prelude.{◌≡◌, true, ◌+◌, ◌*◌, ◌≤◌, ◌<◌, length, get_or, take};
 ghost use Rattle.verdict.specs.Search.{searched};
 ghost use Rattle.lookup.specs.Alts.{table_automaton};

@@ -1,6 +1,7 @@
 // Document 01, "Amplitudes": amplitudes by value, and in lent rows of signed 32-bit numbers, four to a leaf.
 // Two coefficients in range may sum to 2,147,483,648, which 32 bits do not hold: sums are made in 64 bits, and then held to the range.
 #![tactic(auto)]
+
 ghost use Rattle.std.specs.Prelude.{◌≡◌, ◌+◌, ◌*◌, ◌≤◌, nat_abs, neg_ℤ, ◌+ℤ◌, length};
 ghost use Rattle.amplitude.specs.Amp.{amp, timesω, ω^, ◌⊕◌, ◌⊖◌, most, in_range};
 ghost use Rattle.leafrows.specs.Value.{amp_is, InRange, Tested};

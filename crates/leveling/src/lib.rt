@@ -1,6 +1,7 @@
 // Document 01, "What each gate builds": the records of all states of one level of a gate's result, state by state in number order, from the stored
 // keys that say what each state is of the old table. The old table is only read; the records go into the rest of the new one.
 #![tactic(auto)]
+
 ghost use Rattle.std.specs.Prelude.{◌≡◌, true, ◌<◌, eqb, take};
 ghost use Rattle.automata.specs.Choice.{map_alt, together};
 ghost use Rattle.gates.specs.Key.{side_tag};

@@ -1,5 +1,6 @@
 // Document 01, "Stored form": the levels of a set file, by its LV records. Each function asks that these are there, and reads no other record.
 #![tactic(auto)]
+
 ghost use Rattle.std.specs.Prelude.{◌≡◌, ◌+◌, ◌≤◌};
 ghost use Rattle.automata.specs.Sets.{sum};
 ghost use Rattle.stored.specs.Form.{set_of};

@@ -1,5 +1,6 @@
 // A set file, judged by the ten rules and, if it is good, unpacked into lent slices: what both jobs do with each set that they are given.
 #![tactic(auto)]
+
 ghost use Rattle.std.specs.Prelude.{◌≡◌};
 ghost use Rattle.automata.specs.Sets.{QSet};
 ghost use Rattle.stored.specs.Refusal.{good};

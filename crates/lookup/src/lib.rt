@@ -1,6 +1,7 @@
 // What a state of an unpacked set has under a choice: the row of its transition, and all of its choices. A lookup reads the masks of that one
 // state's rows and no others. For what the slices hold see crates/tables/specs/Table.antt.
 #![tactic(auto)]
+
 ghost use Rattle.std.specs.Prelude.{◌≡◌, ◌+◌, ◌-◌, ◌≤◌, ◌<◌, length, get_or};
 ghost use Rattle.automata.specs.Choice.{choices_most, has};
 ghost use Rattle.lookup.specs.Lookup.{row_with, transition_row, union_of, choices_of};

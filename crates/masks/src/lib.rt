@@ -1,5 +1,6 @@
 // Document 01, "Trees, words and members": a set of choices as a 32-bit mask, in which choice c has the value 2^c.
 #![tactic(auto)]
+
 ghost use Rattle.std.specs.Prelude.{◌≡◌, ◌≤◌};
 ghost use Rattle.automata.specs.Choice.{choices_most, least};
 ghost use Rattle.masks.specs.Next.{NextChoice};

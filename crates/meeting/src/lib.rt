@@ -1,6 +1,7 @@
 // Which end states each image state meets, as marks in one lent row: image state s has `wide` words from word s * wide on, and end state e is
 // bit e of them. States of different levels are different numbers, so the pairs of all levels stand in one row, each in its own place.
 #![tactic(auto)]
+
 ghost use Rattle.std.specs.Prelude.{◌≡◌, ℕ, ◌*◌, ◌≤◌, ◌<◌, length};
 ghost use Rattle.meeting.specs.Met.{place, is_met, There, NextMet, Meeting, Emptied};
 

@@ -1,6 +1,7 @@
 // Document 01, "What each gate builds": the records of one state of a gate's result, from the rows of the old state or of both old states of a
 // pair. The old table is only read; the records go into the rest of the new one.
 #![tactic(auto)]
+
 ghost use Rattle.std.specs.Prelude.{◌≡◌, ◌+◌, ◌-◌, ◌*◌, ◌<◌, ◌≤◌, length, get_or};
 ghost use Rattle.automata.specs.Choice.{alt, map_alt, together};
 ghost use Rattle.gates.specs.Roles.{pair_kids};

@@ -3,6 +3,7 @@
 // compared. A cell of `heads` or `link` holds a place and one more, or 0 for none: `heads` has the last place of each bucket, `link` for each
 // place the last one before it of the same bucket. `begin` makes the chains and `mention` keeps them.
 #![tactic(auto)]
+
 ghost use Rattle.std.specs.Prelude.{◌≡◌, ◌+◌, ◌<◌, length, get_or, set, take, replicate};
 ghost use Rattle.names.specs.Chain.{bucket_of, Chained};
 ghost use Rattle.names.specs.Found.{found_in, Numbered};

@@ -1,6 +1,7 @@
 // Document 01, the job *One gate*: "set (source 1), a circuit of exactly 6 bytes (else 11), output of at least 49,248 bytes (else 17)". Its tables and
 // keys are arrays of its own, about 100 KB of stack, so that a caller lends the output only (docs/BUFFERS.md).
 #![tactic(auto)]
+
 ghost use Rattle.std.specs.Prelude.{◌≡◌, ◌≤◌, length};
 ghost use Rattle.jobs.specs.OneGate.{output_size, new_set, with_file, one_gate_reply, one_gate_output};
 ghost use Rattle.replies.specs.Replied.{reply_from};

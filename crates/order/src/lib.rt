@@ -1,6 +1,7 @@
 // Document 01, rule 10, for records of either kind: one pass that carries the last state, the least choice that may come next and the choices
 // that this state has used, so that no two records need to be compared again.
 #![tactic(auto)]
+
 ghost use Rattle.std.specs.Prelude.{◌≡◌, [], ℕ, ◌+◌, ◌*◌, ◌≤◌, length};
 ghost use Rattle.stored.specs.Fields.{records_from};
 ghost use Rattle.stored.specs.Rules.{first_clash};

@@ -1,6 +1,7 @@
 // How far a check is after some words of a block: the word that ends there, many members in one step, and whether the block is remembered. A member
 // that is found from its block passes without a search, and a block is remembered only where each of its words was found from it.
 #![tactic(auto)]
+
 ghost use Rattle.std.specs.Prelude.{Bool, true, ◌≡◌, List, ◌∷◌, ℕ, suc, ◌+◌, ◌-◌, ◌≤◌, ◌<◌, length};
 ghost use Rattle.automata.specs.Members.{Member};
 ghost use Rattle.remembering.specs.Memory.{Same, levels_most, Saying, Memory};

@@ -3,6 +3,7 @@
 // `&mut out[at..]`, for the part that follows: none can reach what an earlier one wrote, and the bytes past the file stay as they were.
 // The coefficients are taken as they stand: their range is the table's business, and any 32-bit number is packed.
 #![tactic(auto)]
+
 ghost use Rattle.std.specs.Prelude.{◌≡◌, [], ◌∷◌, ◌+◌, ◌*◌, ◌≤◌, ◌<◌, length, take};
 ghost use Rattle.automata.specs.Sets.{sum};
 ghost use Rattle.automata.specs.Members.{flat};

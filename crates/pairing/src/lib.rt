@@ -1,6 +1,7 @@
 // Document 01, "one transition for each two transitions whose masks meet, with the intersection as mask", in order of least choice: the two rows, one of
 // each state of a pair, that meet at the least of the choices left. Rows of one state share no choice, so the first that has it is the only one.
 #![tactic(auto)]
+
 ghost use Rattle.std.specs.Prelude.{◌≡◌, ◌+◌, ◌*◌, ◌<◌, ◌≤◌, length};
 ghost use Rattle.automata.specs.Choice.{choices_most, least};
 ghost use Rattle.gates.specs.Roles.{pair_kids};

@@ -1,6 +1,7 @@
 // All files of a check, before any gate: document 01, "start set 1 to 10, circuit 11 and 12, end set 1 to 10, 13". Good sets are unpacked, the start
 // set into one table and the end set into another.
 #![tactic(auto)]
+
 ghost use Rattle.std.specs.Prelude.{◌≡◌, List, length};
 ghost use Rattle.automata.specs.Sets.{QSet};
 ghost use Rattle.stored.specs.Refusal.{good};

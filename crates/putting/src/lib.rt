@@ -1,6 +1,7 @@
 // Document 01, "Stored form", its numbers: "Little-endian", "signed numbers in two's complement". Each function writes at the front of the slice that
 // it is given, and the bytes past what it writes stay as they were, since no store goes past the number's own.
 #![tactic(auto)]
+
 ghost use Rattle.std.specs.Prelude.{◌≡◌, [], ◌∷◌, ◌≤◌, length};
 ghost use Rattle.stored.specs.Fields.{bytes16, bytes32, unsigned32};
 ghost use Rattle.putting.specs.Front.{at_front};

@@ -1,6 +1,7 @@
 // The states that a member's word so far reaches, as bytes of one lent row: cell s is 1 if state s is reached. States of different levels are
 // different numbers, so the states of all levels of a word stand in one row. One choice takes a level's reached states to the next level's.
 #![tactic(auto)]
+
 ghost use Rattle.std.specs.Prelude.{◌≡◌, ◌&&◌, ℕ, ◌≤◌, ◌<◌, length};
 ghost use Rattle.automata.specs.Choice.{choices_most, has};
 ghost use Rattle.lookup.specs.Lookup.{transition_row, pair_row, is_some};

@@ -1,6 +1,7 @@
 // Document 01, "Stored form": LV and TR, and what LF begins with, one record at the front of the slice that is given. The tail is lent on for each
 // field, `&mut out[at..]`, so none can reach what an earlier one wrote.
 #![tactic(auto)]
+
 ghost use Rattle.std.specs.Prelude.{◌≡◌, ◌+◌, ◌≤◌, length};
 ghost use Rattle.automata.specs.Sets.{tr};
 ghost use Rattle.stored.specs.Form.{lv_size, tr_size};

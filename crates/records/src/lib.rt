@@ -1,6 +1,7 @@
 // Document 01, "Stored form": a set's records by value. Each function reads one record at a place whose bytes are there, and looks at no mark.
 // "Reading uses a record reader made of the lent file and the next record's place": every TR and LF record's state and choices are read through one.
 #![tactic(auto)]
+
 ghost use Rattle.std.specs.Prelude.{◌≡◌, ◌+◌, ◌≤◌, length};
 ghost use Rattle.stored.specs.Form.{lv_size, tr_size, lf_size, count_at};
 ghost use Rattle.records.specs.Read.{key_read, tr_read, lf_read};

@@ -1,6 +1,7 @@
 // A refusal, as the code hands it on. What each number, source and place means is document 01's table of replies; specs/Refused.antt
 // ties the two. One struct serves every reply, so that a further number needs no further case.
 #![tactic(auto)]
+
 #[derive(Clone, Copy)]
 pub struct Refusal {
     pub number: u8,

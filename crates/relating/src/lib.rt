@@ -1,6 +1,7 @@
 // Several relations at a time. A relation is a row of marks over all levels (crate meeting); several stand as planes in one lent stack: plane j
 // in the words j * plane up to below (j + 1) * plane.
 #![tactic(auto)]
+
 ghost use Rattle.std.specs.Prelude.{◌≡◌, true, ℕ, ◌+◌, ◌*◌, ◌≤◌, ◌<◌, List, length, get_or};
 ghost use Rattle.automata.specs.Choice.{choices_most};
 ghost use Rattle.lookup.specs.Alts.{table_automaton};

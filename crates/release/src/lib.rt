@@ -1,6 +1,7 @@
 // What the release tool calls: document 01, "The release tool is written in C and calls both jobs with byte slices and numbers. Its entry lends the
 // work buffers itself and writes the reply into a lent byte buffer". The header is include/zhargutai.h, the reply's layout docs/REPLY.md.
 #![tactic(auto)]
+
 pub mod sequences;
 
 ghost use Rattle.std.specs.Prelude.{◌≡◌};

@@ -4,6 +4,7 @@
 // `rows`, its planes at cell k * (room * plane) of `kept`, and cell k * 21 + at of `counts` and of `sizes` has the block's members and 1 (0 for
 // nothing remembered), and its p. What a block says is not known here: the contracts hold for every test of blocks.
 #![tactic(auto)]
+
 ghost use Rattle.std.specs.Prelude.{true, List, ◌≡◌, ℕ, suc, ◌+◌, ◌-◌, ◌*◌, ◌≤◌, ◌<◌, length};
 ghost use Rattle.remembering.specs.Copies.{Equal, EqualPlanes, Spans, SpansPlanes, Copied, CopiedPlanes};
 ghost use Rattle.remembering.specs.Fits.{Placed, Fits, Held, Put, Noted};

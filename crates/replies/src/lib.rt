@@ -2,6 +2,7 @@
 // serves every job. `reply_from` of specs/Replied.antt is the struct of a reply of the definitions, and each maker's promise names it.
 // Only `put_bytes` has a `requires`: a reply buffer may be of any length.
 #![tactic(auto)]
+
 ghost use Rattle.std.specs.Prelude.{◌≡◌, List, [], ◌∷◌, ◌++◌, ℕ, ◌≤◌, length, drop};
 ghost use Rattle.jobs.specs.Reply.{in_places};
 ghost use Rattle.jobs.specs.Entry.{reply_size};

@@ -1,6 +1,7 @@
 // Document 01, "What each gate builds": what a gate does at a level, and the stored keys of a record's two children. All of it by value; no
 // function has a `requires`.
 #![tactic(auto)]
+
 ghost use Rattle.std.specs.Prelude.{◌≡◌};
 ghost use Rattle.circuits.specs.Answer.{kind_is, gate_is};
 ghost use Rattle.gates.specs.Key.{packed, stored, turned, shifted, pair};

@@ -1,5 +1,6 @@
 // Document 01, rules 6, 8 and 9, over all records of one kind: a scan says where the first bad record stands.
 #![tactic(auto)]
+
 ghost use Rattle.std.specs.Prelude.{◌≡◌, ◌+◌, ◌*◌, ◌≤◌, length};
 ghost use Rattle.stored.specs.Fields.{records_from};
 ghost use Rattle.stored.specs.Rules.{first_bad};

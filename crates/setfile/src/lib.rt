@@ -2,6 +2,7 @@
 // header of the set that the bytes hold, or the refusal by the first rule that is broken, with the record that breaks it. The bounds on the counts
 // are the caller's.
 #![tactic(auto)]
+
 ghost use Rattle.std.specs.Prelude.{◌≡◌, cond, ◌+◌, ◌≤◌, ◌<◌, length, eqb};
 ghost use Rattle.stored.specs.Form.{form_of, set_of, hd_size, trs_at, lfs_at, file_size};
 ghost use Rattle.stored.specs.Rules.{ranges_ok, counts_ok, first_bad, later_marks, of_tr, of_lf, record_no};

@@ -1,6 +1,7 @@
 // Document 01, replies 14 to 16: what building left of a gate's set is judged, "gate by gate 15, 14, 16 .. (earliest first)", and the set so far
 // after it. Each test is made once and one function picks the number, so their order stands in one place.
 #![tactic(auto)]
+
 ghost use Rattle.std.specs.Prelude.{◌≡◌, true, ◌+◌, ◌<◌, leb};
 ghost use Rattle.amplitude.specs.Leaf.{k_most};
 ghost use Rattle.stored.specs.Refusal.{refusal, circuit_source};

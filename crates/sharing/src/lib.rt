@@ -1,5 +1,6 @@
 // The choices that all end states met on a level have: no other choice of the end set can give all pairs equal trees, so that only these are tried.
 #![tactic(auto)]
+
 ghost use Rattle.std.specs.Prelude.{◌≡◌, ◌&&◌, ℕ, ◌-◌, ◌<◌, length};
 ghost use Rattle.automata.specs.Choice.{choices_most, has};
 ghost use Rattle.meeting.specs.All.{met_by, all_met};

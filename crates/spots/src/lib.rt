@@ -1,5 +1,6 @@
 // Where a run through a circuit's gates stands, "gate by gate .. (earliest first)": each step passes one record, and places count from 1.
 #![tactic(auto)]
+
 ghost use Rattle.std.specs.Prelude.{◌≡◌, ◌+◌, ◌<◌};
 ghost use Rattle.gates.specs.Circuit.{gt_size};
 ghost use Rattle.spots.specs.Spots.{first_spot, next_spot};

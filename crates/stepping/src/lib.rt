@@ -1,6 +1,7 @@
 // One level down, by one choice of the image's word and one of the end set: the children of every pair that is met are met, left with left and
 // right with right. The choice fails where a state of such a pair has no transition with it. The level's own marks are not changed.
 #![tactic(auto)]
+
 ghost use Rattle.std.specs.Prelude.{◌≡◌, ◌-◌, ◌<◌, length};
 ghost use Rattle.automata.specs.Choice.{choices_most};
 ghost use Rattle.lookup.specs.Lookup.{pair_row};

@@ -1,5 +1,6 @@
 // The check's last phase by the walk that remembers. Its members are those of crate walking, in the same order, and its reply is the same.
 #![tactic(auto)]
+
 ghost use Rattle.std.specs.Prelude.{◌≡◌, suc, ◌*◌, ◌≤◌, ◌<◌, length, get_or};
 ghost use Rattle.automata.specs.Members.{flat, up_to};
 ghost use Rattle.imagewise.specs.Image.{image_verdict};

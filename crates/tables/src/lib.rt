@@ -1,6 +1,7 @@
 // A set unpacked into lent slices, so that no lookup scans a file: see specs/Table.antt for what the slices hold. `unpack` asks for a file that
 // the ten rules passed and for slices that are long enough for its counts. It looks at no mark and at no rule again.
 #![tactic(auto)]
+
 ghost use Rattle.std.specs.Prelude.{◌≡◌, ◌+◌, ◌*◌, ◌≤◌, length};
 ghost use Rattle.automata.specs.Sets.{tr};
 ghost use Rattle.stored.specs.Form.{lv_size, tr_size, lf_size, set_of};

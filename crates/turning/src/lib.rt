@@ -1,6 +1,7 @@
 // One gate of a circuit on a set in one of two tables: it goes from the one that holds the set to the other. By the flag one table or the other is read,
 // so both ways are the same call.
 #![tactic(auto)]
+
 ghost use Rattle.std.specs.Prelude.{◌≡◌};
 ghost use Rattle.automata.specs.Sets.{QSet};
 ghost use Rattle.stored.specs.Refusal.{good};

@@ -1,6 +1,7 @@
 // A member of the image set is tested, as far as the allowance admits: how far the check is, before and after. The definitions of this crate say
 // the members in order, by a walk over choices, and its laws that the check over all of them is document 01's verdict. Crate entering walks.
 #![tactic(auto)]
+
 ghost use Rattle.std.specs.Prelude.{true, ◌≡◌, ◌+◌, ◌<◌, length, get_or, take};
 ghost use Rattle.automata.specs.Members.{member};
 ghost use Rattle.verdict.specs.Search.{searched};

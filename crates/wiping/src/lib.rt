@@ -1,6 +1,7 @@
 // Lent buffers left at zero: document 01, "their named size is zero, further bytes unchanged". A `wipe` sets every cell of what it is lent,
 // and `zero_front_u8` lends the cells of the named size to one, so that it cannot touch a further one. Nothing here reads a cell.
 #![tactic(auto)]
+
 ghost use Rattle.std.specs.Prelude.{◌≡◌, ◌++◌, ◌≤◌, length, replicate, drop};
 
 // Every cell is 0.

@@ -1,10 +1,8 @@
 -- The roots' keys are put, all levels built from them, and what that left is settled: each step's contract is what the next one asks. Assumes nothing.
 -- ---- far places by name
-use mathlib.Core.Path.{◌≡◌, refl, ◌∙◌}
-use Prim.Native.Nat.{◌<◌, ◌≤◌}
+use mathlib.Core.Path.{refl}
+use Prim.Native.Nat.{◌<◌}
 use native.Mathlib.Omega.{arith}
-use lib.ListN.{length, get_or}
-use borrow.Author.Rules.{rules}
 use Rattle.circuits.specs.Answer.{gate_is}
 use Rattle.applying.proofs.OldTable.{root_count, set_going}
 use Rattle.applying.proofs.OneGate.{lists_on, lent_on, may_build, may_settle, answer, table}
@@ -14,7 +12,6 @@ pub put_roots-requires : goal.put_roots-requires
 put_roots-requires c =
     let few : c.args.room.states < 65536 = omega (arith, c.requires.lists.small) in
     omega (arith, root_count few c.requires.stands, c.requires.lists.here)
-
 
 pub build_levels-r-requires : goal.build_levels-r-requires
 build_levels-r-requires c =

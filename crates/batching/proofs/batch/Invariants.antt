@@ -1,12 +1,8 @@
 -- Relation after relation, while there is room; those of the level stay. Assumes nothing.
-use mathlib.Core.Path.{◌≡◌, refl, ◌∙◌}
-use Prim.Native.Nat.{◌-◌, ◌*◌}
-use native.Mathlib.Omega.{arith}
-use borrow.Author.Rules.{rules}
+use mathlib.Core.Path.{◌≡◌}
+use Prim.Native.Nat.{◌-◌}
 use lib.ListN.{length}
-use Rattle.relating.proofs.Relations.{turning}
-use Rattle.batching.proofs.Grounds.{ground-again, level-long}
-use Rattle.batching.proofs.Batches.{turned, Batching, batches, batches_on, batched}
+use Rattle.batching.proofs.Batches.{Batching}
 use Rattle.batching.proofs.batch.Given as goal
 
 abbrev pub invariant-loop-place : goal.invariant-loop-place

@@ -1,11 +1,7 @@
 -- The words before word i are the same. Assumes nothing.
 use mathlib.Core.Path.{◌≡◌}
-use mathlib.Core.Bool.{false≢true}
 use Prim.Native.Nat.{ℕ, ◌+◌, ◌-◌, ◌<◌, ◌≤◌}
-use native.Mathlib.Omega.{arith}
 use lib.ListN.{get_or}
-use borrow.Author.Rules.{rules}
-use Rattle.batching.proofs.Wholes.{same_on}
 use Rattle.batching.proofs.same_words.Given as goal
 
 abbrev pub invariant-loop-i : goal.invariant-loop-i

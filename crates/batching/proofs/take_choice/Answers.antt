@@ -2,8 +2,6 @@
 use mathlib.Core.Path.{sym, ◌∙◌}
 use Prim.Native.Nat.{◌+◌}
 use native.Mathlib.Omega.{arith}
-use borrow.Author.Rules.{rules}
-use borrow.Author.Tests.{not-true, not-false}
 use Rattle.matching.proofs.Turns.{kept_less}
 use Rattle.batching.proofs.Grounds.{ground-again, step_ground, may_ground, next-room}
 use Rattle.batching.proofs.Grows.{grown-none, grown-step}
@@ -14,33 +12,26 @@ pub step_down-requires : goal.step_down-requires
 step_down-requires c =
     (step_ground c.requires.0, c.requires.3, c.requires.4)
 
-
 pub returns-then-not-step_down : goal.returns-then-not-step_down
 returns-then-not-step_down c =
     (grown-none (c.args.q + 1) (omega arith), kept_less c.requires.0.stage.below c.step_down.ensures.kept, whole-failed c.args.d c.step_down.ensures c.if-not-step_down.true)
-
 
 pub all_may-requires : goal.all_may-requires
 all_may-requires c =
     may_ground (ground-again c.requires.0 c.step_down.auto.met)
 
-
 pub returns-then-not-all_may : goal.returns-then-not-all_may
-returns-then-not-all_may c =
-    (
-      grown-none (c.args.q + 1) (omega arith),
-      kept_less c.requires.0.stage.below c.step_down.ensures.kept,
-      whole_unmarked c.args.d c.step_down.ensures c.if-not-step_down.false (sym c.all_may.ensures ∙ c.if-not-all_may.true),
-    )
-
+returns-then-not-all_may c = (
+  grown-none (c.args.q + 1) (omega arith),
+  kept_less c.requires.0.stage.below c.step_down.ensures.kept,
+  whole_unmarked c.args.d c.step_down.ensures c.if-not-step_down.false (sym c.all_may.ensures ∙ c.if-not-all_may.true),
+)
 
 pub join-requires : goal.join-requires
 join-requires c =
     (next-room (ground-again c.requires.0 c.step_down.auto.met) c.requires.1, c.requires.2)
 
-
 pub returns : goal.returns
 returns c =
     let goes = c.if-not-step_down.false in
     (grown-step c.requires.0 c.step_down.ensures goes c.requires.4 c.join.ensures.added, kept_less c.requires.0.stage.below c.step_down.ensures.kept, whole-joined c.args.d c.step_down.ensures c.requires.0.stage.narrow c.requires.0.stage.long goes c.join.ensures)
-

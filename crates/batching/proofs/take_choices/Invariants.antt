@@ -1,10 +1,6 @@
 -- Choice after choice that all end states have, while there is room; the spare row has the relation still. Assumes nothing.
 use Prim.Native.Nat.{◌-◌}
-use native.Mathlib.Omega.{arith}
-use Rattle.meeting.proofs.Places.{words-before}
-use Rattle.relating.proofs.Relations.{turning}
-use Rattle.batching.proofs.Grounds.{ground-again, shared_ground}
-use Rattle.batching.proofs.Batches.{turned, Taking, takes, takes_on, takes_next, took}
+use Rattle.batching.proofs.Batches.{Taking}
 use Rattle.batching.proofs.take_choices.Given as goal
 
 abbrev pub invariant-loop-d : goal.invariant-loop-d

@@ -1,6 +1,5 @@
 -- The spare row has the relation of plane k. Assumes nothing.
 use native.Mathlib.Omega.{arith}
-use borrow.Author.Rules.{rules}
 use Rattle.meeting.proofs.Places.{words-before}
 use Rattle.batching.proofs.Grounds.{ground-again, level-long, level-room}
 use Rattle.batching.proofs.Grows.{out_marks}
@@ -12,13 +11,10 @@ copy_out-requires c =
     let w = words-before c.args.plane c.args.k c.args.room c.requires.5 in
     level-room c.requires.0 (omega (arith, c.requires.1))
 
-
 pub take_choices-requires : goal.take_choices-requires
 take_choices-requires c =
     (ground-again c.requires.0 c.copy_out.auto.row, c.requires.1, c.requires.2, c.requires.3, c.requires.4)
 
-
 pub returns : goal.returns
 returns c =
     took_from (out_marks c.args.stack.now _ c.args.k c.requires.0.stage.small (level-long c.requires.0) c.copy_out.ensures) c.take_choices.ensures
-

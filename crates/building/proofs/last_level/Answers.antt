@@ -1,5 +1,4 @@
 -- `building::last_level` meets its contract. Assumes nothing.
-use borrow.Author.Rules.{rules}
 use Rattle.building.proofs.Steps.{may_end, last_whole}
 use Rattle.building.proofs.last_level.Goals as goal
 
@@ -14,4 +13,3 @@ end_level-e-requires c =
 pub returns : goal.returns
 returns c =
     last_whole c.args.count c.requires.count_in_bounds.2 c.end_level-e.ensures
-

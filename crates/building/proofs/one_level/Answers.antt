@@ -3,7 +3,6 @@ use lib.ListN.{take}
 use Rattle.gates.specs.Roles.{role}
 use Rattle.circuits.specs.Answer.{gate_is}
 use Rattle.building.proofs.Begins.{fresh_grows, grew_begun, kept-begun}
-use borrow.Author.Rules.{rules}
 use Rattle.building.proofs.one_level.Goals as goal
 
 pub grow_level-requires : goal.grow_level-requires

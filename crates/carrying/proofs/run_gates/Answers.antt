@@ -2,13 +2,8 @@
 -- many gates are left. Assumes nothing.
 use Prim.Native.Nat.{◌<◌}
 use native.Mathlib.Omega.{arith}
-use borrow.Author.Rules.{rules}
 use Rattle.circuits.specs.Answer.{gate_is}
-use Rattle.gates.specs.Refuse.{after_gates}
-use Rattle.settling.specs.Result.{bounds_from}
-use Rattle.standing.specs.Tables.{table_of, set_on}
-use Rattle.carrying.specs.Carried.{gates_from}
-use Rattle.carrying.proofs.Turns.{SameLong, long-by, same-long, long_on, SameLists, lists-by, same_lists, lists_on, Going, here, begins, ends, at_spot, spot_less, goes_on, stopped, may_turn, turned}
+use Rattle.carrying.proofs.Turns.{long-by, same-long, long_on, lists-by, same_lists, lists_on, here, begins, ends, at_spot, spot_less, goes_on, stopped, may_turn, turned}
 use Rattle.carrying.proofs.run_gates.Goals as goal
 
 pub loop-spot-init : goal.loop-spot-init
@@ -16,11 +11,9 @@ loop-spot-init c =
     let few : c.args.count < 65536 = omega (arith, c.ranges) in
     (at_spot c.first_spot-spot.ensures (begins few c.requires.readable c.requires.stands_on c.requires.lists c.requires.lent_on.0 c.requires.lent_on.1), same-long, same-long, same_lists)
 
-
 pub gate_here-g-requires : goal.gate_here-g-requires
 gate_here-g-requires c =
     here c.loop-spot.invariant.0.readable (goes_on c.loop-spot.spot.left c.loop-spot.state.ok c.loop-spot-test.true).0
-
 
 pub turn-r-requires : goal.turn-r-requires
 turn-r-requires c =
@@ -38,11 +31,9 @@ next_spot-spot-requires c =
     let p = goes_on c.loop-spot.spot.left c.loop-spot.state.ok c.loop-spot-test.true in
     (p.0, omega (arith, (here c.loop-spot.invariant.0.readable p.0).0, c.well_formed.0), omega (arith, c.loop-spot.invariant.0.few))
 
-
 pub loop-spot-smaller : goal.loop-spot-smaller
 loop-spot-smaller c =
     spot_less c.loop-spot.spot c.next_spot-spot.ensures (goes_on c.loop-spot.spot.left c.loop-spot.state.ok c.loop-spot-test.true).0
-
 
 pub loop-spot-preserved : goal.loop-spot-preserved
 loop-spot-preserved c =
@@ -56,8 +47,6 @@ loop-spot-preserved c =
       lists_on lists c.loop-spot.invariant.3,
     )
 
-
 pub returns : goal.returns
 returns c =
     ends c.loop-spot.invariant.0 (stopped c.loop-spot.spot.left c.loop-spot.state.ok c.loop-spot-test.false)
-

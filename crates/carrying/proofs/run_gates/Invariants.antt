@@ -1,14 +1,10 @@
 -- The loop's invariant: the set so far, carried through the gates that are left, comes to what all gates make of the first set. The measure is how
 -- many gates are left. Assumes nothing.
-use Prim.Native.Nat.{◌<◌}
-use native.Mathlib.Omega.{arith}
-use borrow.Author.Rules.{rules}
-use Rattle.circuits.specs.Answer.{gate_is}
 use Rattle.gates.specs.Refuse.{after_gates}
 use Rattle.settling.specs.Result.{bounds_from}
 use Rattle.standing.specs.Tables.{table_of, set_on}
 use Rattle.carrying.specs.Carried.{gates_from}
-use Rattle.carrying.proofs.Turns.{SameLong, long-by, same-long, long_on, SameLists, lists-by, same_lists, lists_on, Going, here, begins, ends, at_spot, spot_less, goes_on, stopped, may_turn, turned}
+use Rattle.carrying.proofs.Turns.{SameLong, SameLists, Going}
 use Rattle.carrying.proofs.run_gates.Given as goal
 
 abbrev pub invariant-loop-spot : goal.invariant-loop-spot

@@ -1,8 +1,6 @@
 -- `checkjob::check` meets its contract: 17 comes before all else and leaves the buffers. Assumes nothing.
 -- ---- far places by name
 use mathlib.Core.Path.{sym, ◌∙◌}
-use borrow.Author.Rules.{rules}
-use borrow.Author.Tests.{not-true, not-false}
 use Rattle.checkjob.specs.Sizes.{check_lent}
 use Rattle.checkjob.proofs.Tested.{long-is, is-long, short_reply, short_work, long_reply, long_work}
 use Rattle.checkjob.proofs.check.Goals as goal
@@ -19,7 +17,6 @@ returns-then-not-marks_long c =
 pub lend-requires : goal.lend-requires
 lend-requires c =
     is-long c.args.met.now c.args.stack.now c.args.kept.now c.args.hints.now (sym c.marks_long.ensures ∙ c.if-not-marks_long.false)
-
 
 pub returns : goal.returns
 returns c =

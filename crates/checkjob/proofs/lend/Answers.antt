@@ -1,7 +1,6 @@
 -- `checkjob::lend` meets its contract: what is lent are the fronts of the buffers, so that further cells stay. Assumes nothing.
 -- ---- far places by name
 use mathlib.Core.Path.{sym}
-use borrow.Author.Rules.{rules}
 use Rattle.checkjob.proofs.Working.{fronts_sized, fronts_wiped}
 use Rattle.checkjob.proofs.lend.Goals as goal
 
@@ -9,26 +8,21 @@ pub slice_bounds-work-end-2 : goal.slice_bounds-work-end-2
 slice_bounds-work-end-2 c =
     sym (fronts_sized c.requires).met_long
 
-
 pub slice_bounds-work-end-4 : goal.slice_bounds-work-end-4
 slice_bounds-work-end-4 c =
     sym (fronts_sized c.requires).stack_long
-
 
 pub slice_bounds-work-end-6 : goal.slice_bounds-work-end-6
 slice_bounds-work-end-6 c =
     sym (fronts_sized c.requires).kept_long
 
-
 pub slice_bounds-work-end-8 : goal.slice_bounds-work-end-8
 slice_bounds-work-end-8 c =
     sym (fronts_sized c.requires).hints_long
 
-
 pub work-requires : goal.work-requires
 work-requires c =
     fronts_sized c.requires
-
 
 pub returns : goal.returns
 returns c =

@@ -1,13 +1,11 @@
 -- `checkjob::work` meets its contract: the check over the bounds of every set, then every row wiped. Assumes nothing.
 -- ---- far places by name
-use borrow.Author.Rules.{rules}
 use Rattle.checkjob.proofs.Working.{may_check, is-answer, wiped-whole}
 use Rattle.checkjob.proofs.work.Goals as goal
 
 pub check_files-reply-requires : goal.check_files-reply-requires
 check_files-reply-requires c =
     may_check c.room_for.ensures c.room_for-2.ensures c.requires
-
 
 pub returns : goal.returns
 returns c =

@@ -1,15 +1,11 @@
 -- `circuitfile::first_wrong` meets its contract. The loop's invariant: the records passed, and the first wrong one of those left, come to the first
 -- wrong one of all. The measure is what is left. Assumes nothing.
-use mathlib.Core.Path.{◌≡◌, sym, ◌∙◌}
+use mathlib.Core.Path.{◌≡◌}
 use Prim.Native.Nat.{◌+◌, ◌-◌, ◌*◌, ◌≤◌}
-use native.Mathlib.Omega.{arith}
 use lib.ListN.{length}
-use borrow.Author.Tests.{not-true, not-false}
 use Rattle.stored.specs.Fields.{records_from}
 use Rattle.stored.specs.Rules.{first_bad}
 use Rattle.gates.specs.Circuit.{gate_at, is_gate, records_of}
-use Rattle.circuitfile.proofs.Scan.{bad_on, bad-here, bad-end}
-use borrow.Author.Rules.{rules}
 use Rattle.circuitfile.proofs.first_wrong.Given as goal
 
 abbrev pub invariant-loop-left : goal.invariant-loop-left

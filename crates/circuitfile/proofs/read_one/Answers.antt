@@ -1,7 +1,6 @@
 -- `circuitfile::read_one` meets its contract: it makes the definition's test of the length, then reads the record. Assumes nothing.
 use borrow.Author.Tests.{eq-eqb, ne_eqb}
 use Rattle.gates.specs.Circuit.{judge_one}
-use borrow.Author.Rules.{rules}
 use Rattle.circuitfile.proofs.read_one.Goals as goal
 
 pub returns-then-s-eq-GT_SIZE : goal.returns-then-s-eq-GT_SIZE
@@ -9,9 +8,7 @@ unfolding judge_one
 returns-then-s-eq-GT_SIZE c =
     simp (eq-eqb _ 6 c.if-s-eq-GT_SIZE.true) c.read_gates.ensures
 
-
 pub returns : goal.returns
 unfolding judge_one
 returns c =
     simp (ne_eqb _ 6 c.if-s-eq-GT_SIZE.false) c.refused.ensures
-

@@ -2,7 +2,6 @@
 use mathlib.Core.Path.{sym, ap, ◌∙◌}
 use Rattle.gates.specs.Circuit.{kind_of}
 use Rattle.circuits.proofs.Answers.{alone_from, alone-from}
-use borrow.Author.Rules.{rules}
 use Rattle.circuits.proofs.gate_alone.Goals as goal
 
 pub returns-in-Is : goal.returns-in-Is
@@ -12,10 +11,8 @@ returns-in-Is c =
     ∙ ap (alone_from a.target a.control) (sym c.in-Is.is ∙ c.kind_of.ensures)
     ∙ alone-from a.target a.control (kind_of a.code)
 
-
 pub returns-in-Wrong : goal.returns-in-Wrong
 returns-in-Wrong c =
     let a = c.args in
     ap (alone_from a.target a.control) (sym c.in-Wrong.is ∙ c.kind_of.ensures)
     ∙ alone-from a.target a.control (kind_of a.code)
-

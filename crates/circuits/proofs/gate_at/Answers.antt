@@ -2,11 +2,9 @@
 use Rattle.stored.specs.Fields.{mark_at}
 use Rattle.gates.specs.Circuit.{gate_at}
 use Rattle.circuits.specs.Bytes.{gate_of_bytes}
-use borrow.Author.Rules.{rules}
 use Rattle.circuits.proofs.gate_at.Goals as goal
 
 pub returns : goal.returns
 unfolding gate_at mark_at gate_of_bytes
 returns c =
     c.gate_of.ensures
-

@@ -5,4 +5,3 @@ use Rattle.circuits.proofs.is_qubit.Goals as goal
 pub returns : goal.returns
 returns c =
     refl
-

@@ -9,7 +9,6 @@ pub returns-in_default : goal.returns-in_default
 returns-in_default c =
     sym (ap kind_answer (kind-none c.args.code c.in_default.in_default-own.rest))
 
-
 pub returns-in-1 : goal.returns-in-1
 returns-in-1 c = rw c.in-1.is
 

@@ -1,5 +1,4 @@
 -- `circuits::may_control` meets its contract: it makes the same two tests. Assumes nothing.
-use borrow.Author.Rules.{rules}
 use Rattle.circuits.proofs.may_control.Goals as goal
 
 pub returns : goal.returns

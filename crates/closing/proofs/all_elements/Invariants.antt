@@ -1,7 +1,5 @@
 -- `closing::all_elements` meets its contract: the numbers left pass exactly if all do. Assumes nothing.
-use native.Mathlib.Omega.{arith}
-use borrow.Author.Rules.{rules}
-use Rattle.closing.proofs.Loops.{Testing, test-begin, test-found, test_on, test-end}
+use Rattle.closing.proofs.Loops.{Testing}
 use Rattle.closing.proofs.all_elements.Given as goal
 
 abbrev pub invariant-loop-left : goal.invariant-loop-left

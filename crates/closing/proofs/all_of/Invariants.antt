@@ -1,7 +1,5 @@
 -- `closing::all_of` meets its contract: the product so far, then the numbers left, comes to all of them. Assumes nothing.
-use native.Mathlib.Omega.{arith}
-use borrow.Author.Rules.{rules}
-use Rattle.closing.proofs.Loops.{Playing, play_begin, play_number, play_on, play_end}
+use Rattle.closing.proofs.Loops.{Playing}
 use Rattle.closing.proofs.all_of.Given as goal
 
 abbrev pub invariant-loop-unplayed : goal.invariant-loop-unplayed

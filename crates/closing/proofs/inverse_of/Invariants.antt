@@ -1,6 +1,5 @@
 -- `closing::inverse_of` meets its contract: the first column in which the identity stands. Assumes nothing.
-use borrow.Author.Rules.{rules}
-use Rattle.closing.proofs.Loops.{Searching, search_begin, search_found, search_on, search_end}
+use Rattle.closing.proofs.Loops.{Searching}
 use Rattle.closing.proofs.inverse_of.Given as goal
 
 abbrev pub invariant-loop-left : goal.invariant-loop-left

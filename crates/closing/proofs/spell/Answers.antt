@@ -3,7 +3,6 @@ use mathlib.Core.Path.{sym, ap, ◌∙◌}
 use Prim.Native.Nat.{◌<◌, ◌≤◌}
 use native.Mathlib.Omega.{arith}
 use lib.ListN.{length}
-use borrow.Author.Rules.{rules}
 use Rattle.cliffords.specs.Elements.{elements_most}
 use Rattle.cliffords.specs.Words.{letters_most}
 use Rattle.replies.specs.Replied.{reply_from}

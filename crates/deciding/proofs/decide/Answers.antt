@@ -1,7 +1,7 @@
 -- `deciding::decide` meets its contract: the gates leave the image in one of two tables, and the walk over that table gives the verdict by the
 -- matrices. Assumes nothing.
 -- ---- far places by name
-use mathlib.Core.Path.{◌≡◌, ap, ◌∙◌}
+use mathlib.Core.Path.{ap, ◌∙◌}
 use borrow.Author.Rules.{rules}
 use borrow.Author.Tests.{not-true, not-false}
 use Rattle.replies.specs.Replied.{reply_from}
@@ -28,11 +28,9 @@ returns-then-not-done c =
     c.refused.ensures
     ∙ ap reply_from (gate-refused (bounds_from c.args.room) (set_on c.args.files.form (table_of c.args.arows.now c.args.amasks.now c.args.acoefs.now c.args.acounts.now c.args.afirst.now)) (gates_from c.args.files.form.n c.args.circuit.now 0 c.args.files.count) (set_on c.args.files.endform (table_of c.args.endrows.now c.args.endmasks.now c.args.endcoefs.now c.args.endcounts.now c.args.endfirst.now)) c.args.terms.most _ (first-refusal c.run_gates-done.ensures (not-true _ c.if-not-done.true)))
 
-
 pub stride-requires : goal.stride-requires
 stride-requires c =
     walkable c.requires ((c.run_gates-done.ensures.stands (not-false _ c.if-not-done.false)).two c.if-done.true) c.run_gates-done.ensures.qubits
-
 
 pub returns-then-done : goal.returns-then-done
 returns-then-done c =
@@ -40,11 +38,9 @@ returns-then-done c =
     c.stride.ensures (walkable c.requires ((c.run_gates-done.ensures.stands ok).two c.if-done.true) c.run_gates-done.ensures.qubits)
     ∙ ap reply_from (all-gates_on c.args.room c.args.files.form (table_of c.args.arows.now c.args.amasks.now c.args.acoefs.now c.args.acounts.now c.args.afirst.now) (gates_from c.args.files.form.n c.args.circuit.now 0 c.args.files.count) (set_on c.args.files.endform (table_of c.args.endrows.now c.args.endmasks.now c.args.endcoefs.now c.args.endcounts.now c.args.endfirst.now)) c.args.terms.most _ c.requires.start c.requires.fit (in_second c.run_gates-done.ensures ok c.if-done.true))
 
-
 pub stride-requires-2 : goal.stride-requires-2
 stride-requires-2 c =
     walkable c.requires ((c.run_gates-done.ensures.stands (not-false _ c.if-not-done.false)).one c.if-done.false) c.run_gates-done.ensures.qubits
-
 
 pub returns : goal.returns
 returns c =
@@ -52,28 +48,22 @@ returns c =
     c.stride-2.ensures (walkable c.requires ((c.run_gates-done.ensures.stands ok).one c.if-done.false) c.run_gates-done.ensures.qubits)
     ∙ ap reply_from (all-gates_on c.args.room c.args.files.form (table_of c.args.arows.now c.args.amasks.now c.args.acoefs.now c.args.acounts.now c.args.afirst.now) (gates_from c.args.files.form.n c.args.circuit.now 0 c.args.files.count) (set_on c.args.files.endform (table_of c.args.endrows.now c.args.endmasks.now c.args.endcoefs.now c.args.endcounts.now c.args.endfirst.now)) c.args.terms.most _ c.requires.start c.requires.fit (in_first c.run_gates-done.ensures ok c.if-done.false))
 
-
 pub slice_bounds-stride-end : goal.slice_bounds-stride-end
 slice_bounds-stride-end c =
     search rules
-
 
 pub slice_bounds-stride-end-then-done : goal.slice_bounds-stride-end-then-done
 slice_bounds-stride-end-then-done c =
     search rules
 
-
 pub slice_bounds-stride-end-then-done-2 : goal.slice_bounds-stride-end-then-done-2
 slice_bounds-stride-end-then-done-2 c =
     search rules
-
 
 pub slice_bounds-stride-end-then-done-3 : goal.slice_bounds-stride-end-then-done-3
 slice_bounds-stride-end-then-done-3 c =
     search rules
 
-
 pub slice_bounds-stride-end-then-done-4 : goal.slice_bounds-stride-end-then-done-4
 slice_bounds-stride-end-then-done-4 c =
     search rules
-

@@ -1,15 +1,13 @@
 -- A level's records come first and those of the levels below it behind them, so what one level and the rest of them leave is what the numbering of
 -- all of them says; the measure is how many levels are left. Assumes nothing.
-use Prim.Native.Nat.{ℕ, ◌<◌}
-use Prim.Native.Nat.{◌+◌, ◌*◌, ◌<◌, ◌≤◌}
+use Prim.Native.Nat.{◌<◌}
+use Prim.Native.Nat.{◌<◌, ◌≤◌}
 use Rattle.building.proofs.Climb.{first_count, gave_up, last_numbered, level-over, next_going, climbed}
-use Rattle.building.proofs.Rounds.{old_source, keyed, leaf-keys, fresh}
+use Rattle.building.proofs.Rounds.{old_source, keyed, leaf-keys}
 use Rattle.circuits.specs.Answer.{gate_is}
 use Rattle.descending.proofs.Passing.{lists_on, rest_on, rest-lent, same-built}
-use borrow.Author.Rules.{rules}
 use borrow.Author.Tests.{not-true, not-false}
-use lib.ListN.{length, set, length-set}
-use mathlib.Core.Path.{◌≡◌, ◌∙◌}
+use lib.ListN.{length, set}
 use native.Mathlib.Omega.{arith}
 use Rattle.descending.proofs.+build_levels_rest_levels.Goals as goal
 

@@ -1,17 +1,12 @@
--- `elements::put_word` meets its contract: the part of the table that is copied is the element's word. Assumes nothing.
-use mathlib.Core.Path.{◌≡◌}
-use Prim.Native.Nat.{◌+◌, ◌*◌, ◌-◌}
-use native.Mathlib.Omega.{arith}
-use lib.ListN.{length}
-use borrow.Author.Rules.{rules}
+-- The part of the table that is copied is the element's word. Assumes nothing.
+use Rattle.std.proofs.Common.{◌≡◌, ℕ, ◌+◌, ◌-◌, ◌*◌, List, ◌++◌, length, drop, ap, ◌∙◌, arith}
 use Rattle.cliffords.specs.Words.{codes_of}
-use Rattle.elements.proofs.Tables.{word_left}
+use Rattle.elements.proofs.Tables.{word_rule}
 use Rattle.elements.proofs.put_word.Goals as goal
 
-pub returns : goal.returns
-returns c =
-    let e : c.args.element * 6 + c.letters_of-letters.result - c.args.element * 6 ≡ length (codes_of c.args.element) = omega (arith, c.letters_of-letters.ensures.0) in
-    record {
-      value = c.letters_of-letters.ensures.0;
-      out_after = word_left c.args.element c.requires.0 (c.args.element * 6 + c.letters_of-letters.result - c.args.element * 6) e c.args.out.now _ c.copy.ensures.1;
-    }
+pub returns-clause-out_after : goal.returns-clause-out_after
+returns-clause-out_after c =
+    let e = c.args.element in
+    let k : e * 6 + c.letters_of-letters.result - e * 6 ≡ length (codes_of e) = omega (arith, c.letters_of-letters.ensures.0) in
+    let word : c.copy_from_slice.new.self ≡ codes_of e = c.copy_from_slice.ensures.after ∙ word_rule e c.requires.0 (e * 6 + c.letters_of-letters.result - e * 6) k in
+    ap (λ (l : List ℕ). l ++ drop c.letters_of-letters.result c.args.out.now) word ∙ ap (λ (n : ℕ). codes_of e ++ drop n c.args.out.now) c.letters_of-letters.ensures.0

@@ -1,12 +1,8 @@
 -- The loop's invariant: the keys from i on give the records left to add. The measure is how many they are. Assumes nothing.
-use mathlib.Core.Path.{◌≡◌}
-use mathlib.Core.Bool.{true}
-use Prim.Native.Nat.{◌-◌, ◌<◌, ◌≤◌}
-use native.Mathlib.Omega.{arith}
-use borrow.Author.Rules.{rules}
+use Prim.Native.Nat.{◌-◌, ◌≤◌}
 use Rattle.ending.specs.Ends.{ends_of}
-use Rattle.ending.proofs.Steps.{OnTheWay, going}
-use Rattle.ending.proofs.Keys.{keys_left, keys_all, level-begin, level_on, level-end}
+use Rattle.ending.proofs.Steps.{OnTheWay}
+use Rattle.ending.proofs.Keys.{keys_left, keys_all}
 use Rattle.ending.proofs.end_level.Given as goal
 
 abbrev pub invariant-loop-i : goal.invariant-loop-i

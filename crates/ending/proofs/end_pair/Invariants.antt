@@ -1,15 +1,8 @@
 -- The loop's invariant: the choices left give the records left to add; and both states have rows where a choice is left. The measure is how many
 -- steps are left. Assumes nothing.
-use mathlib.Core.Path.{◌≡◌}
-use mathlib.Core.Bool.{true}
 use Prim.Native.Nat.{◌^◌, ◌<◌}
-use native.Mathlib.Omega.{arith}
-use lib.Bits.{and_le_l, xor_lt}
-use lib.ListN.{get_or}
-use borrow.Author.Rules.{rules}
-use Rattle.automata.proofs.Masks.{least-small}
-use Rattle.ending.proofs.Steps.{OnTheWay, way_begin}
-use Rattle.ending.proofs.Pairs.{pair_left, pair_all, some-rows, pair-begin, pair_on, pair_end_lem, pair_going}
+use Rattle.ending.proofs.Steps.{OnTheWay}
+use Rattle.ending.proofs.Pairs.{pair_left, pair_all}
 use Rattle.ending.proofs.end_pair.Given as goal
 
 abbrev pub invariant-loop-left : goal.invariant-loop-left

@@ -1,15 +1,10 @@
 -- The loop's invariant: the rows from i on give what is left to add. The measure is how many they are. Assumes nothing.
-use mathlib.Core.Path.{◌≡◌}
-use mathlib.Core.Bool.{true}
-use Prim.Native.Nat.{◌-◌, ◌<◌, ◌≤◌}
-use native.Mathlib.Omega.{arith}
-use borrow.Author.Rules.{rules}
+use Prim.Native.Nat.{◌-◌, ◌≤◌}
 use Rattle.amplitude.specs.Leaf.{turn}
 use Rattle.automata.specs.Choice.{map_alt}
 use Rattle.gates.specs.Numbering as numbering
 use Rattle.lookup.specs.Alts.{leaf_alts}
-use Rattle.ending.proofs.Steps.{OnTheWay, way_begin, going}
-use Rattle.ending.proofs.Singles.{single_on, single-end}
+use Rattle.ending.proofs.Steps.{OnTheWay}
 use Rattle.ending.proofs.end_single.Given as goal
 
 abbrev pub invariant-loop-i : goal.invariant-loop-i

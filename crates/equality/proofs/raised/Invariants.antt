@@ -1,14 +1,9 @@
 -- The loop's invariant: after `done` doublings the product is √2^(2 done) times what it was at first, since a doubling is two units. What is left
 -- of d is then nothing, or the one unit of the single step. The measure is the doublings to come. Assumes nothing.
-use mathlib.Core.Path.{◌≡◌, refl, sym, ap, ◌∙◌, subst}
-use Prim.Native.Nat.{ℕ, suc, ◌+◌, ◌-◌, ◌≤◌}
-use native.Mathlib.Omega.{arith}
-use borrow.Author.Rules.{rules}
-use Rattle.amplitude.specs.Amp.{Amp, times√2, ◌⊕◌, √2^}
-use Rattle.leafrows.specs.Value.{amp_is, Within}
-use Rattle.leafrows.proofs.Ranges.{range-within}
-use Rattle.equality.specs.Wide.{wide_is, wide_most}
-use Rattle.equality.proofs.Growth.{two_steps, within-√2^}
+use mathlib.Core.Path.{◌≡◌}
+use Prim.Native.Nat.{◌+◌, ◌-◌, ◌≤◌}
+use Rattle.amplitude.specs.Amp.{√2^}
+use Rattle.equality.specs.Wide.{wide_is}
 use Rattle.equality.proofs.raised.Given as goal
 
 abbrev pub invariant-loop-done : goal.invariant-loop-done

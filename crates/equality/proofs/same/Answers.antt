@@ -1,7 +1,6 @@
 -- Both are raised to the greater k, and then compared. Assumes nothing.
 use mathlib.Core.Path.{◌≡◌, ap, ap₂, ◌∙◌}
 use Prim.Native.Nat.{ℕ, ◌-◌}
-use borrow.Author.Rules.{rules}
 use Rattle.amplitude.specs.Amp.{√2^, same_a}
 use Rattle.leafrows.specs.Value.{amp_is}
 use Rattle.equality.specs.Wide.{wide_is}
@@ -14,4 +13,3 @@ returns c =
     let e' : wide_is c.raised-second.result ≡ √2^ (c.args.k - c.args.l) (amp_is c.args.y) =
     c.raised-second.ensures ∙ ap (λ (d : ℕ). √2^ d (amp_is c.args.y)) c.over-2.ensures in
     c.same_numbers.ensures ∙ ap₂ same_a e e'
-

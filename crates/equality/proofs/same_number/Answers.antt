@@ -5,4 +5,3 @@ use Rattle.equality.proofs.same_number.Goals as goal
 pub returns : goal.returns
 returns c =
     same_bits c.args.x c.args.y c.ranges.x c.ranges.y
-

@@ -7,8 +7,6 @@ pub overflow_cast-result : goal.overflow_cast-result
 overflow_cast-result c =
     rw (to_z-of_z c.ranges.z) (wide c.ranges.z)
 
-
 pub returns : goal.returns
 returns c =
     widened c.ranges.z
-

@@ -1,5 +1,5 @@
 -- Each coefficient is tested, and each is the number of its bits. Assumes nothing.
-use borrow.Author.Rules.{rules, sfits_of}
+use borrow.Author.Rules.{sfits_of}
 use Rattle.fields.proofs.Kept.{bits_kept}
 use Rattle.faults.proofs.amp_ok.Goals as goal
 
@@ -11,4 +11,3 @@ returns c =
       bits_kept c.args.l.c (sfits_of c.struct_told-1.given.1.1.1.1.0.1),
       bits_kept c.args.l.d (sfits_of c.struct_told-1.given.1.1.1.1.1.0.1),
     )
-

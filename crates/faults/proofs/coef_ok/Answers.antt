@@ -6,4 +6,3 @@ use Rattle.faults.proofs.coef_ok.Goals as goal
 pub returns : goal.returns
 returns c =
     simp (to_z-of_z c.ranges.z) (range-both c.args.z)
-

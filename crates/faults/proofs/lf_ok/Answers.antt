@@ -1,6 +1,5 @@
 -- The level is that of the record's state, and the rule speaks of nothing else but its mask and its coefficients. Assumes nothing.
 use mathlib.Core.Path.{ap, ◌∙◌}
-use borrow.Author.Rules.{rules}
 use Rattle.stored.specs.Form.{form_of, set_of}
 use Rattle.stored.specs.Rules.{lf_ok}
 use Rattle.records.specs.Read.{lf_of}
@@ -12,4 +11,3 @@ pub returns : goal.returns
 returns c =
     simp (c.amp_ok-range.ensures, c.level_of-own.ensures.0) (ok-is c.args.s.now c.args.n c.requires.0 (form_of c.args.s.now).k c.lf_at-l.result)
     ∙ ap (lf_ok (set_of c.args.s.now)) (ap (lf_of (form_of c.args.s.now).k) c.lf_at-l.ensures ∙ lf_read_lem (form_of c.args.s.now).k c.args.s.now c.args.at)
-

@@ -1,6 +1,5 @@
 -- The levels are those of the record's three states, and the rule speaks of nothing else but its mask. Assumes nothing.
 use mathlib.Core.Path.{ap, ◌∙◌}
-use borrow.Author.Rules.{rules}
 use Rattle.stored.specs.Form.{set_of}
 use Rattle.stored.specs.Rules.{tr_fault}
 use Rattle.records.specs.Read.{tr_of}
@@ -13,4 +12,3 @@ returns c =
     c.fault_of.ensures
     ∙ simp (c.level_of-right.ensures.0, c.level_of-left.ensures.0, c.level_of-own.ensures.0) (fault_is c.args.s.now c.args.n c.requires.0 c.tr_at-t.result)
     ∙ ap (tr_fault (set_of c.args.s.now)) (ap tr_of c.tr_at-t.ensures ∙ tr_read_lem c.args.s.now c.args.at)
-

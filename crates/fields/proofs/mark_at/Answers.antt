@@ -1,6 +1,5 @@
 -- The test of the two bytes is the definition's own. Assumes nothing.
 use mathlib.Core.Path.{refl}
-use borrow.Author.Rules.{rules}
 use Rattle.stored.specs.Fields.{mark_at}
 use Rattle.fields.proofs.mark_at.Goals as goal
 
@@ -8,4 +7,3 @@ pub returns : goal.returns
 unfolding mark_at
 returns c =
     refl
-

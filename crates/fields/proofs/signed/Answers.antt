@@ -4,7 +4,6 @@ use Prim.Native.Nat.{◌-◌}
 use native.Mathlib.Omega.{arith}
 use mir.Syntax.{w32}
 use mir.Val.{to_z}
-use borrow.Author.Rules.{rules}
 use borrow.Author.Tests.{le-ltb}
 use Rattle.fields.proofs.signed.Goals as goal
 
@@ -13,4 +12,3 @@ returns-else-x-lt2147483648 c =
     let x = c.args.x in
     let e : 4294967295 - (4294967295 - x) ≡ x = omega arith in
     ap (to_z w32) e ∙ simp (le-ltb _ _ c.if-x-lt2147483648.false)
-

@@ -1,6 +1,5 @@
 -- Two bytes are below 65,536 together, and their sum is the definition's. Assumes nothing.
 use native.Mathlib.Omega.{arith}
-use borrow.Author.Rules.{rules}
 use Rattle.stored.specs.Fields.{u16_at}
 use Rattle.fields.proofs.u16_at.Goals as goal
 
@@ -8,4 +7,3 @@ pub returns : goal.returns
 unfolding u16_at
 returns c =
     omega arith
-

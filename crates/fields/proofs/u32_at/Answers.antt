@@ -1,6 +1,5 @@
 -- Two numbers of 16 bits are below 2^32 together, and their sum is the definition's. Assumes nothing.
 use native.Mathlib.Omega.{arith}
-use borrow.Author.Rules.{rules}
 use Rattle.stored.specs.Fields.{u32_at}
 use Rattle.fields.proofs.u32_at.Goals as goal
 
@@ -8,4 +7,3 @@ pub returns : goal.returns
 unfolding u32_at
 returns c =
     omega arith
-

@@ -1,20 +1,15 @@
 -- All image states so far pass. Assumes nothing.
 -- image state s passes with each end state that it meets
-use mathlib.Core.Path.{◌≡◌, refl, sym, ◌∙◌}
+use mathlib.Core.Path.{◌≡◌}
 use mathlib.Core.Bool.{Bool, true}
 use mathlib.Core.List.{List}
-use Prim.Native.Nat.{ℕ, ◌+◌, ◌-◌, ◌<◌, ◌≤◌, max}
-use native.Mathlib.Omega.{arith}
-use borrow.Author.Rules.{rules}
-use borrow.Author.Tests.{not-true, not-false}
-use Rattle.meeting.specs.All.{all_in, met_by, met_in}
-use Rattle.meeting.proofs.AllLaws.{all_none, all_on, all-stops, all_done}
+use Prim.Native.Nat.{ℕ, ◌-◌, ◌≤◌, max}
+use Rattle.meeting.specs.All.{all_in, met_by}
 use Rattle.fitting.specs.Fit.{leaves_in}
 use Rattle.fitting.proofs.all_fit.Given as goal
 
 abbrev pub F : (ℕ → ℕ → Bool) → ℕ → List ℕ → ℕ → ℕ → ℕ → Bool
 F g wide met start stop s = met_by g wide met s start (stop - start)
-
 
 abbrev pub invariant-loop-s : goal.invariant-loop-s
 invariant-loop-s l =

@@ -1,15 +1,10 @@
 -- The choices left to try come to all of them: one that not all end states met have cannot fit. Assumes nothing.
-use mathlib.Core.Path.{◌≡◌, sym, ◌∙◌}
-use mathlib.Core.Bool.{Bool}
+use mathlib.Core.Path.{◌≡◌}
 use Prim.Native.Nat.{ℕ, ◌-◌}
-use native.Mathlib.Omega.{arith}
-use borrow.Author.Rules.{rules}
 use Rattle.automata.specs.Members.{choices, up_to}
 use Rattle.verdict.specs.Search.{fits_one}
 use Rattle.meeting.specs.All.{all_met}
 use Rattle.fitting.specs.Fit.{leaves_in}
-use Rattle.fitting.proofs.Leaves.{no_choice, level_open}
-use Rattle.fitting.proofs.Tries.{try_here, try_on, try_none, try_next}
 use Rattle.fitting.proofs.fit_any.Given as goal
 
 abbrev pub invariant-loop-d : goal.invariant-loop-d

@@ -1,6 +1,5 @@
 -- Both leaves are read and compared across k. Assumes nothing.
 use mathlib.Core.Path.{ap₂, ◌∙◌}
-use borrow.Author.Rules.{rules}
 use Rattle.amplitude.specs.Leaf.{same}
 use Rattle.fitting.proofs.Leaves.{leaf-is}
 use Rattle.fitting.proofs.fit_rows.Goals as goal
@@ -10,4 +9,3 @@ returns c =
     c.same.ensures
     ∙ ap₂ same (leaf-is c.args.rows.now c.args.coefs.now c.args.i c.scale_at.ensures c.leaf_at-x.ensures.0)
     (leaf-is c.args.endrows.now c.args.endcoefs.now c.args.j c.scale_at-2.ensures c.leaf_at-y.ensures.0)
-

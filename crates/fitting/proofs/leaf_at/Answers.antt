@@ -1,7 +1,6 @@
 -- The row's second number says where its amplitude stands. Assumes nothing.
 use mathlib.Core.Path.{◌≡◌, ap, ◌∙◌}
 use Prim.Native.Nat.{ℕ}
-use borrow.Author.Rules.{rules}
 use Rattle.amplitude.specs.Amp.{in_range_a}
 use Rattle.lookup.specs.Lookup.{pair_row}
 use Rattle.leafrows.specs.Value.{amp_is}
@@ -13,4 +12,3 @@ returns c =
     let e : amp_is c.amplitude_at.result ≡ row_amp c.args.coefs.now (pair_row c.args.rows.now c.args.i).0 =
     c.amplitude_at.ensures ∙ ap (λ (j : ℕ). row_amp c.args.coefs.now j) c.index.ensures in
     (e, ap in_range_a e ∙ c.requires.range)
-

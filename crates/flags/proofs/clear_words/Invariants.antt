@@ -1,7 +1,6 @@
 -- Word after word becomes zero. Assumes nothing.
 use Prim.Native.Nat.{◌-◌}
-use borrow.Author.Rules.{rules}
-use Rattle.flags.proofs.FlagLaws.{Clearing, begin, next, all}
+use Rattle.flags.proofs.FlagLaws.{Clearing}
 use Rattle.flags.proofs.clear_words.Given as goal
 
 abbrev pub invariant-loop-i : goal.invariant-loop-i

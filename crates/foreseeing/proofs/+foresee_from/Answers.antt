@@ -1,10 +1,8 @@
 -- The marks of the level are cleared, those of the levels below made, and then the level's own. The levels left fall. Assumes nothing.
-use Prim.Native.Nat.{ℕ, ◌-◌, ◌<◌}
-use Rattle.foreseeing.proofs.Grounds.{foresee-again, level-long, levels-small, next-there, last_ground, inner_ground, foresee_next, foreseen_last, foreseen_more}
+use Prim.Native.Nat.{◌-◌}
+use Rattle.foreseeing.proofs.Grounds.{foresee-again, level-long, next-there, last_ground, inner_ground, foreseen_last, foreseen_more}
 use Rattle.matching.proofs.Turns.{one_less}
-use borrow.Author.Rules.{rules}
 use mathlib.Core.Path.{refl, sym, ◌∙◌}
-use native.Mathlib.Omega.{arith}
 use Rattle.foreseeing.proofs.+foresee_from.Goals as goal
 
 pub meet_none-requires : goal.meet_none-requires

@@ -1,11 +1,6 @@
 -- No row of the image state so far fits. Assumes nothing.
-use mathlib.Core.Path.{refl, sym, ◌∙◌}
-use mathlib.Core.Bool.{false≢true}
-use Prim.Native.Nat.{ℕ, ◌+◌, ◌-◌, ◌<◌, ◌≤◌}
-use native.Mathlib.Omega.{arith}
-use borrow.Author.Rules.{rules}
+use Prim.Native.Nat.{ℕ, ◌-◌, ◌<◌, ◌≤◌}
 use Rattle.foreseeing.specs.Foresee.{RowFits}
-use Rattle.foreseeing.proofs.Fits.{none_more}
 use Rattle.foreseeing.proofs.could.Given as goal
 
 abbrev pub invariant-loop-i : goal.invariant-loop-i

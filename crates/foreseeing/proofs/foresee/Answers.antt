@@ -1,6 +1,5 @@
 -- The first level's states stand in the counts. Assumes nothing.
 use native.Mathlib.Omega.{arith}
-use borrow.Author.Rules.{rules}
 use Rattle.matching.proofs.Grounds.{level-there}
 use Rattle.foreseeing.proofs.Grounds.{first-level, all-levels}
 use Rattle.foreseeing.proofs.foresee.Goals as goal
@@ -9,18 +8,14 @@ pub bounds-counts-0 : goal.bounds-counts-0
 bounds-counts-0 c =
     level-there c.requires.image 0 (omega arith)
 
-
 pub bounds-endcounts-0 : goal.bounds-endcounts-0
 bounds-endcounts-0 c =
     level-there c.requires.ends 0 (omega arith)
-
 
 pub foresee_from-requires : goal.foresee_from-requires
 foresee_from-requires c =
     first-level c.requires
 
-
 pub returns : goal.returns
 returns c =
     all-levels c.foresee_from.ensures
-

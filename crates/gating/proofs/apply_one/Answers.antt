@@ -1,7 +1,5 @@
 -- `gating::apply_one` meets its contract. Assumes nothing.
-use mathlib.Core.Path.{◌≡◌, ap, sym, ◌∙◌}
-use native.Mathlib.Omega.{arith}
-use Prim.Native.Nat.{ℕ}
+use mathlib.Core.Path.{ap, sym, ◌∙◌}
 use Rattle.automata.specs.Sets.{QSet}
 use Rattle.stored.specs.Refusal.{Judged}
 use Rattle.gates.specs.Refuse.{judge_gate}
@@ -13,7 +11,6 @@ use Rattle.settling.specs.Result.{bounds_from}
 use Rattle.settling.proofs.Results.{made-good, refused-told}
 use Rattle.gating.specs.Gated.{length_reply}
 use Rattle.gating.proofs.Storing.{n-few, target-narrow, target-lent, made-stands, made_reply, made_output}
-use borrow.Author.Rules.{rules}
 use Rattle.gating.proofs.apply_one.Goals as goal
 
 pub apply_gate-requires : goal.apply_gate-requires

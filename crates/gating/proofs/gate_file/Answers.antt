@@ -1,15 +1,13 @@
 -- `gating::gate_file` meets its contract. Assumes nothing.
-use mathlib.Core.Path.{◌≡◌, refl, sym, ◌∙◌}
+use mathlib.Core.Path.{refl, sym, ◌∙◌}
 use Rattle.stored.specs.Judge.{judge_set}
 use Rattle.stored.specs.Refusal.{start_source}
 use Rattle.stored.specs.Form.{set_of}
 use Rattle.setfile.specs.Answer.{form_read}
 use Rattle.setfile.proofs.Taken.{taken, turned_down}
-use Rattle.standing.specs.Standing.{set_in}
 use Rattle.settling.specs.Result.{bounds_from}
-use Rattle.gating.specs.Gated.{gated_by, new_set_by}
+use Rattle.gating.specs.Gated.{new_set_by}
 use Rattle.gating.proofs.GateOn.{same_reply, same_output, not_started, started_stands, started}
-use borrow.Author.Rules.{rules}
 use Rattle.gating.proofs.gate_file.Goals as goal
 
 pub gate_on-requires : goal.gate_on-requires

@@ -1,12 +1,11 @@
 -- `gating::gate_on` meets its contract. Assumes nothing.
-use mathlib.Core.Path.{◌≡◌, refl, sym, ◌∙◌}
+use mathlib.Core.Path.{refl, sym, ◌∙◌}
 use Rattle.gates.specs.Refuse.{judge_gate}
 use Rattle.circuits.specs.Answer.{gate_is}
 use Rattle.standing.specs.Standing.{set_in}
 use Rattle.settling.specs.Result.{bounds_from}
 use Rattle.gating.specs.Gated.{gated_by}
 use Rattle.gating.proofs.GateOn.{may_apply, gate_on, no_gate, same_reply, same_output}
-use borrow.Author.Rules.{rules}
 use Rattle.gating.proofs.gate_on.Goals as goal
 
 pub apply_one-requires : goal.apply_one-requires

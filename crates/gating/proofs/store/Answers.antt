@@ -1,11 +1,10 @@
 -- `gating::store` meets its contract. Assumes nothing.
-use mathlib.Core.Path.{◌≡◌, ap, sym, ◌∙◌}
+use mathlib.Core.Path.{ap, ◌∙◌}
 use native.Mathlib.Omega.{arith}
 use Prim.Native.Nat.{ℕ}
 use Rattle.jobs.specs.Reply.{made}
 use Rattle.replies.specs.Replied.{reply_from}
 use Rattle.gating.proofs.Storing.{states-sum, has-rows, file_fits, file_short}
-use borrow.Author.Rules.{rules}
 use Rattle.gating.proofs.store.Goals as goal
 
 pub pack-length-requires : goal.pack-length-requires
@@ -19,7 +18,6 @@ pack-length-requires c =
 pub overflow_cast-length : goal.overflow_cast-length
 overflow_cast-length c =
     omega (arith, c.pack-length.ensures.value, file_short c.requires.stands c.requires.narrow.0)
-
 
 pub returns : goal.returns
 returns c =

@@ -38,21 +38,17 @@ pub overflow_add-left : goal.overflow_add-left
 overflow_add-left c =
     omega (arith, c.requires.small, c.mention-l.ensures.within, c.mention-r.ensures.no_less, c.if-most-r.false)
 
-
 pub overflow_add-right : goal.overflow_add-right
 overflow_add-right c =
     omega (arith, c.requires.small, c.mention-r.ensures.within, c.if-most-r.false)
-
 
 pub put_row-requires : goal.put_row-requires
 put_row-requires c =
     (omega (arith, c.requires.wide, c.requires.rows_few, c.if-done-most.false), omega (arith, c.requires.long, c.requires.rows_few, c.if-done-most.false))
 
-
 pub overflow_add-result : goal.overflow_add-result
 overflow_add-result c =
     omega (arith, c.requires.rows_few, c.if-done-most.false)
-
 
 pub returns : goal.returns
 returns c =

@@ -1,20 +1,15 @@
 -- All image states so far pass. Assumes nothing.
 -- image state s is marked with each end state that it meets
-use mathlib.Core.Path.{◌≡◌, sym, ◌∙◌}
+use mathlib.Core.Path.{◌≡◌}
 use mathlib.Core.Bool.{Bool, true}
 use mathlib.Core.List.{List}
-use Prim.Native.Nat.{ℕ, ◌+◌, ◌-◌, ◌<◌, ◌≤◌, max}
-use native.Mathlib.Omega.{arith}
-use borrow.Author.Rules.{rules}
-use borrow.Author.Tests.{not-true, not-false}
+use Prim.Native.Nat.{ℕ, ◌-◌, ◌≤◌, max}
 use Rattle.meeting.specs.Met.{is_met}
-use Rattle.meeting.specs.All.{all_in, met_by, met_in}
-use Rattle.meeting.proofs.AllLaws.{all_none, all_on, all-stops, all_done}
+use Rattle.meeting.specs.All.{all_in, met_by}
 use Rattle.hinting.proofs.all_may.Given as goal
 
 abbrev pub F : List ℕ → List ℕ → ℕ → ℕ → ℕ → ℕ → Bool
 F may met wide start stop s = met_by (is_met wide may) wide met s start (stop - start)
-
 
 abbrev pub invariant-loop-s : goal.invariant-loop-s
 invariant-loop-s l =

@@ -1,11 +1,7 @@
 -- No row so far passes. Assumes nothing.
-use mathlib.Core.Path.{◌≡◌, refl, sym, ap, ◌∙◌}
-use mathlib.Core.Bool.{Bool, true, false, false≢true}
-use Prim.Native.Nat.{ℕ, ◌+◌, ◌-◌, ◌<◌, ◌≤◌}
-use native.Mathlib.Omega.{arith}
-use lib.Dec.{eqb}
-use borrow.Author.Rules.{rules}
-use borrow.Author.Tests.{eqb-true, eqb-false}
+use mathlib.Core.Path.{◌≡◌}
+use mathlib.Core.Bool.{false}
+use Prim.Native.Nat.{ℕ, ◌-◌, ◌<◌, ◌≤◌}
 use Rattle.amplitude.specs.Leaf.{same}
 use Rattle.lookup.specs.Lookup.{leaf_of}
 use Rattle.hinting.proofs.end_fits.Given as goal

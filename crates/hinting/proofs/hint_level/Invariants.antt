@@ -1,11 +1,8 @@
 -- The image states so far are marked. Assumes nothing.
-use mathlib.Core.Path.{◌≡◌, refl, ◌∙◌}
-use Prim.Native.Nat.{ℕ, ◌+◌, ◌-◌, ◌<◌, ◌≤◌}
-use native.Mathlib.Omega.{arith}
+use mathlib.Core.Path.{◌≡◌}
+use Prim.Native.Nat.{◌-◌, ◌≤◌}
 use lib.ListN.{length}
-use borrow.Author.Rules.{rules}
 use Rattle.hinting.specs.Hint.{Hinted}
-use Rattle.hinting.proofs.Hints.{so_far, level-none, level-more, level_all, row-again}
 use Rattle.hinting.proofs.hint_level.Given as goal
 
 abbrev pub invariant-loop-s : goal.invariant-loop-s

@@ -1,11 +1,8 @@
 -- The end states so far are marked. Assumes nothing.
-use mathlib.Core.Path.{◌≡◌, refl, ◌∙◌}
-use Prim.Native.Nat.{ℕ, ◌+◌, ◌-◌, ◌<◌, ◌≤◌}
-use native.Mathlib.Omega.{arith}
+use mathlib.Core.Path.{◌≡◌}
+use Prim.Native.Nat.{◌-◌, ◌≤◌}
 use lib.ListN.{length}
-use borrow.Author.Rules.{rules}
 use Rattle.hinting.specs.Hint.{MarkedRow}
-use Rattle.hinting.proofs.Hints.{row-none, row_more, row-all, pair-again, there-again}
 use Rattle.hinting.proofs.hint_state.Given as goal
 
 abbrev pub invariant-loop-e : goal.invariant-loop-e

@@ -1,10 +1,9 @@
 -- No row so far passes. Assumes nothing.
 use mathlib.Core.Path.{◌≡◌, refl, sym, ap, ◌∙◌}
 use mathlib.Core.Bool.{Bool, true, false, false≢true}
-use Prim.Native.Nat.{ℕ, ◌+◌, ◌-◌, ◌<◌, ◌≤◌}
+use Prim.Native.Nat.{ℕ, ◌+◌, ◌<◌, ◌≤◌}
 use native.Mathlib.Omega.{arith}
 use lib.Dec.{eqb}
-use borrow.Author.Rules.{rules}
 use borrow.Author.Tests.{eqb-true, eqb-false}
 use Rattle.lookup.specs.Lookup.{pair_row}
 use Rattle.hinting.specs.Hint.{both_marked}
@@ -14,11 +13,9 @@ pub loop-j-init : goal.loop-j-init
 loop-j-init c =
     (omega arith, λ q lo hi. absurd (omega arith))
 
-
 pub kids_marked-requires : goal.kids_marked-requires
 kids_marked-requires c =
     c.requires.each c.loop-j.j c.loop-j.invariant.0 c.loop-j-test.true
-
 
 pub loop-j-preserved : goal.loop-j-preserved
 loop-j-preserved c =
@@ -28,11 +25,9 @@ loop-j-preserved c =
     go f from j h k q lo hi true e = ap f (eqb-true q j e) ∙ k
     go f from j h k q lo hi false e = h q lo (omega (arith, eqb-false q j e))
 
-
 pub returns : goal.returns
 returns c =
     λ w. absurd (false≢true (sym (c.loop-j.invariant.1 w.row w.after (omega (arith, c.loop-j-test.false, w.before))) ∙ w.marked))
-
 
 pub returns-then-kids_marked : goal.returns-then-kids_marked
 returns-then-kids_marked c = λ w. refl

@@ -1,10 +1,6 @@
 -- All end states so far pass. Assumes nothing.
-use mathlib.Core.Path.{sym, ◌∙◌}
-use Prim.Native.Nat.{◌-◌, ◌≤◌}
-use native.Mathlib.Omega.{arith}
-use borrow.Author.Rules.{rules}
-use borrow.Author.Tests.{not-true, not-false}
-use Rattle.meeting.proofs.NextLaws.{Passing, pass_first, pass_after, pass_next, pass_stops, pass_all}
+use Prim.Native.Nat.{◌-◌}
+use Rattle.meeting.proofs.NextLaws.{Passing}
 use Rattle.meeting.specs.Met.{is_met}
 use Rattle.hinting.proofs.state_may.Given as goal
 

@@ -3,7 +3,6 @@ use mathlib.Core.Path.{sym, ◌∙◌}
 use Prim.Native.Nat.{◌≤◌}
 use native.Mathlib.Omega.{arith}
 use lib.ListN.{length}
-use borrow.Author.Rules.{rules}
 use Rattle.lines.specs.Printed.{line_room}
 use Rattle.lines.proofs.Divided.{ok-is}
 use Rattle.jobline.specs.Line.{no_job}
@@ -20,7 +19,6 @@ returns-then-out-lt-LINE_ROOM c =
 pub put_job-requires : goal.put_job-requires
 put_job-requires c =
     (sym (ok-is c.args.input.now c.divide-parts.ensures) ∙ c.if-parts.true, c.divide-parts.ensures, omega (arith, c.if-out-lt-LINE_ROOM.false))
-
 
 pub returns : goal.returns
 returns c =

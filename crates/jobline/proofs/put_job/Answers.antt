@@ -1,6 +1,5 @@
 -- `jobline::put_job` meets its contract: the start set's n says how many choices the word of the reply has. Assumes nothing.
 use native.Mathlib.Omega.{arith}
-use borrow.Author.Rules.{rules}
 use Rattle.jobline.proofs.Lines.{job_reply, divides, in_parts, choices_its, line-put, length-told}
 use Rattle.jobline.proofs.put_job.Goals as goal
 
@@ -8,16 +7,13 @@ pub slice_bounds-choices_in-count : goal.slice_bounds-choices_in-count
 slice_bounds-choices_in-count c =
     omega (arith, in_parts c.args.input.now c.requires.1 c.requires.0)
 
-
 pub slice_bounds-choices_in-start : goal.slice_bounds-choices_in-start
 slice_bounds-choices_in-start c =
     omega (arith, in_parts c.args.input.now c.requires.1 c.requires.0)
 
-
 pub slice_bounds-choices_in-end : goal.slice_bounds-choices_in-end
 slice_bounds-choices_in-end c =
     omega (arith, in_parts c.args.input.now c.requires.1 c.requires.0)
-
 
 pub returns : goal.returns
 returns c =

@@ -1,14 +1,11 @@
 -- The cycle of the search in batches: each batch is judged one level down. The levels left fall, and so do the places left on a level.
 -- Assumes nothing.
-use Prim.Native.Nat.{ℕ, suc, ◌+◌, ◌-◌, ◌<◌}
-use Rattle.batching.proofs.Grows.{low_same, low_on, low_less}
-use Rattle.judging.proofs.Turning.{judging-again, batch_ground, judge_next, wise, Sifting, sift_none, sift_all, sift_hit, sift_on}
+use Prim.Native.Nat.{suc, ◌+◌, ◌-◌}
+use Rattle.batching.proofs.Grows.{low_on, low_less}
+use Rattle.judging.proofs.Turning.{judging-again, batch_ground, judge_next, wise, sift_none, sift_all, sift_hit, sift_on}
 use Rattle.lookup.specs.Alts.{table_automaton}
-use Rattle.matching.proofs.Turns.{next_fits, small-level, long-level, letter-there, letter-small, levels-few, leaf-stage, again, one_less, below_all, hints-again}
-use Rattle.relating.specs.Found.{found}
-use borrow.Author.Rules.{rules}
-use lib.ListN.{length}
-use mathlib.Core.Path.{◌≡◌, refl, sym, ap, ◌∙◌}
+use Rattle.matching.proofs.Turns.{next_fits, small-level, long-level, letter-small, leaf-stage, again, one_less, below_all, hints-again}
+use mathlib.Core.Path.{◌≡◌, refl, sym, ◌∙◌}
 use native.Mathlib.Nat.{mul-le-mul_right}
 use native.Mathlib.Omega.{arith}
 use Rattle.judging.proofs.+judge_from.Goals as goal

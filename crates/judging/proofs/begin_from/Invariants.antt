@@ -1,12 +1,8 @@
 -- Root after root, while there is room. Assumes nothing.
-use mathlib.Core.Path.{◌≡◌, refl, ◌∙◌}
+use mathlib.Core.Path.{◌≡◌}
 use Prim.Native.Nat.{◌-◌, ◌≤◌}
-use native.Mathlib.Omega.{arith}
 use lib.ListN.{length}
-use Rattle.meeting.proofs.Places.{words-before}
-use Rattle.relating.proofs.Relations.{turning}
-use Rattle.batching.proofs.Batches.{turned}
-use Rattle.judging.proofs.Starts.{Starting, starting, starting_on, started}
+use Rattle.judging.proofs.Starts.{Starting}
 use Rattle.judging.proofs.begin_from.Given as goal
 
 abbrev pub invariant-loop-e : goal.invariant-loop-e

@@ -1,13 +1,9 @@
 -- Batch after batch of the end's roots: those before e match by no word. Assumes nothing.
-use mathlib.Core.Path.{◌≡◌, refl, sym, ◌∙◌}
-use Prim.Native.Nat.{◌+◌, ◌-◌}
-use native.Mathlib.Omega.{arith}
+use mathlib.Core.Path.{◌≡◌}
+use Prim.Native.Nat.{◌-◌}
 use lib.ListN.{length}
 use Rattle.lookup.specs.Alts.{table_automaton}
-use Rattle.matching.proofs.Grounds.{level-there}
-use Rattle.matching.proofs.Turns.{hints-again}
-use Rattle.matching.proofs.Roots.{lent_again, root_seeking, all_hints}
-use Rattle.judging.proofs.Turning.{Rooting, rooting, rooting_on, rooted-all, whole_word, root_rooted, apt, judge_roots, spaced-again}
+use Rattle.judging.proofs.Turning.{Rooting}
 use Rattle.judging.proofs.judge.Given as goal
 
 abbrev pub invariant-loop-e : goal.invariant-loop-e

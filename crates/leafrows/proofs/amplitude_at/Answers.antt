@@ -1,5 +1,4 @@
 -- Each coefficient is the number at its place. Assumes nothing.
-use borrow.Author.Rules.{rules}
 use mir.Syntax.{w32}
 use Rattle.tables.specs.Table.{leaf_row}
 use Rattle.leafrows.proofs.Signed.{amp-told}
@@ -9,4 +8,3 @@ pub returns : goal.returns
 unfolding leaf_row
 returns c =
     amp-told w32 _ _ _ _ c.a-1.given c.b-1.given c.c-1.given c.d-1.given
-

@@ -6,4 +6,3 @@ use Rattle.leafrows.proofs.in_range.Goals as goal
 pub returns : goal.returns
 returns c =
     simp (to_z-of_z c.ranges.z) (range-both c.args.z)
-

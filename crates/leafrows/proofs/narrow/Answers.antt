@@ -9,8 +9,6 @@ pub overflow_cast-result : goal.overflow_cast-result
 overflow_cast-result c =
     rw (to_z-of_z c.ranges.z) (fits32 c.args.z (omega arith))
 
-
 pub returns : goal.returns
 returns c =
     to_z-of_z (overflow_cast-result c) ∙ to_z-of_z c.ranges.z
-

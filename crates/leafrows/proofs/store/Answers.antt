@@ -1,7 +1,6 @@
 -- Each coefficient goes to its place, and no store changes the length. Assumes nothing.
 use native.Mathlib.Omega.{arith}
 use lib.ListN.{length-set}
-use borrow.Author.Rules.{rules}
 use mir.Syntax.{w32}
 use Rattle.leafrows.specs.Row.{row_set}
 use Rattle.leafrows.proofs.Signed.{told}
@@ -11,7 +10,6 @@ pub returns : goal.returns
 unfolding row_set
 returns c =
     rw (told w32 c.args.x.a c.struct_told-4-1.given.0.1, told w32 c.args.x.b c.struct_told-4-1.given.1.0.1, told w32 c.args.x.c c.struct_told-4-1.given.1.1.0.1, told w32 c.args.x.d c.struct_told-4-1.given.1.1.1.0.1)
-
 
 pub bounds-coefs-at-2 : goal.bounds-coefs-at-2
 bounds-coefs-at-2 c = simp length-set (omega arith)

@@ -10,8 +10,6 @@ pub negated-first-requires : goal.negated-first-requires
 negated-first-requires c =
     rw (told w32 c.args.x.d c.struct_told-1.given.1.1.1.0.1) (range-within (amp_is c.args.x) c.requires).3
 
-
 pub returns : goal.returns
 returns c =
     amp-told w32 c.negated-first.result c.args.x.a c.args.x.b c.args.x.c c.negated-first.type_inv c.struct_told-2-1.given.0.1 c.struct_told-2-1.given.1.0.1 c.struct_told-2-1.given.1.1.0.1 ∙ rw (c.negated-first.ensures, told w32 c.args.x.d c.struct_told-2-1.given.1.1.1.0.1)
-

@@ -1,13 +1,8 @@
 -- The loop's invariant: after `done` turns the product is ω^done times what it was at first. The measure is what is left of j. Assumes nothing.
-use mathlib.Core.Path.{◌≡◌, refl, ap, ◌∙◌}
-use Prim.Native.Nat.{ℕ, ◌≤◌, ◌-◌}
-use native.Mathlib.Omega.{arith}
-use native.Mathlib.Numerals.{add-one}
-use borrow.Author.Rules.{rules}
-use Rattle.amplitude.specs.Amp.{timesω, ω^, in_range_a}
-use Rattle.leafrows.specs.declared.Amplitude.{Amplitude}
-use Rattle.leafrows.specs.Value.{amp_is, InRange}
-use Rattle.leafrows.proofs.Ranges.{range-ω^}
+use mathlib.Core.Path.{◌≡◌}
+use Prim.Native.Nat.{◌≤◌, ◌-◌}
+use Rattle.amplitude.specs.Amp.{ω^}
+use Rattle.leafrows.specs.Value.{amp_is}
 use Rattle.leafrows.proofs.turned.Given as goal
 
 abbrev pub invariant-loop-done : goal.invariant-loop-done

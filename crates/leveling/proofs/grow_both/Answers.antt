@@ -1,6 +1,5 @@
 -- `leveling::grow_both` meets its contract: the rows of both states are there, and all their meetings are taken. Assumes nothing.
 use Rattle.leveling.proofs.States.{state_there}
-use borrow.Author.Rules.{rules}
 use Rattle.leveling.proofs.grow_both.Goals as goal
 
 pub grow_pair-requires : goal.grow_pair-requires

@@ -1,16 +1,14 @@
 -- `leveling::grow_level` meets its contract: the states left, from the level held, give what all states give from the level at the start. Assumes
 -- nothing.
-use Prim.Native.Nat.{◌+◌, ◌-◌}
-use native.Mathlib.Omega.{arith}
+use Prim.Native.Nat.{◌-◌}
 use lib.Dec.{eqb}
-use lib.ListN.{get_or, take}
-use Rattle.stepwise.specs.Grow.{grow_state, grow_all}
+use lib.ListN.{take}
+use Rattle.stepwise.specs.Grow.{grow_all}
 use Rattle.roles.specs.Kept.{role_is}
 use Rattle.growing.specs.Growing.{level_in, Kept}
-use Rattle.growing.proofs.Growth.{over-all}
-use Rattle.growing.proofs.Going.{Going, going_first, going_on, going_last, goes_out, kept-all, kept_on}
+use Rattle.growing.proofs.Going.{Going}
 use Rattle.moving.specs.Moves.{moves_of}
-use Rattle.leveling.proofs.Turns.{turn, left_from, left-all, left-turn, left-none}
+use Rattle.leveling.proofs.Turns.{left_from}
 use Rattle.leveling.proofs.grow_level.Given as goal
 
 abbrev pub invariant-loop-k : goal.invariant-loop-k

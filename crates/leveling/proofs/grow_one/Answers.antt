@@ -1,6 +1,5 @@
 -- `leveling::grow_one` meets its contract: the state's rows are there, and all of them are taken. Assumes nothing.
 use Rattle.leveling.proofs.States.{state_there}
-use borrow.Author.Rules.{rules}
 use Rattle.leveling.proofs.grow_one.Goals as goal
 
 pub grow_single-requires : goal.grow_single-requires

@@ -1,7 +1,6 @@
 -- `leveling::grow_state` meets its contract: the tag of the key says which states' rows give its records. Assumes nothing.
 use Rattle.roles.specs.Kept.{role_is, side_is}
 use Rattle.leveling.proofs.States.{single_of, pair_of}
-use borrow.Author.Rules.{rules}
 use Rattle.leveling.proofs.grow_state.Goals as goal
 
 pub grow_both-requires : goal.grow_both-requires

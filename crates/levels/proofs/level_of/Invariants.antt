@@ -1,13 +1,10 @@
 -- What is left of the number, looked for from this level on, comes to the level of the whole. Assumes nothing.
-use mathlib.Core.Path.{◌≡◌, ap, ◌∙◌}
-use mathlib.Core.List.{List}
-use Prim.Native.Nat.{ℕ, ◌+◌, ◌*◌, ◌≤◌}
-use native.Mathlib.Omega.{arith}
+use mathlib.Core.Path.{◌≡◌}
+use Prim.Native.Nat.{◌+◌, ◌*◌, ◌≤◌}
 use lib.ListN.{length}
-use borrow.Author.Rules.{rules}
 use Rattle.automata.specs.Sets.{level_in}
 use Rattle.stored.specs.Form.{set_of}
-use Rattle.levels.proofs.LevelLaws.{counts_from, counts-are, level-here, level_on, level-end}
+use Rattle.levels.proofs.LevelLaws.{counts_from}
 use Rattle.levels.proofs.level_of.Given as goal
 
 abbrev pub invariant-loop-left : goal.invariant-loop-left

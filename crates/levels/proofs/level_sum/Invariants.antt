@@ -1,12 +1,10 @@
 -- The sum so far and that of the levels left come to the sum of all. Assumes nothing.
-use mathlib.Core.Path.{◌≡◌, ap}
+use mathlib.Core.Path.{◌≡◌}
 use Prim.Native.Nat.{◌+◌, ◌*◌, ◌≤◌}
-use native.Mathlib.Omega.{arith}
 use lib.ListN.{length}
-use borrow.Author.Rules.{rules}
 use Rattle.automata.specs.Sets.{sum}
 use Rattle.stored.specs.Form.{set_of}
-use Rattle.levels.proofs.LevelLaws.{counts_from, counts-are, sum_on, sum-end}
+use Rattle.levels.proofs.LevelLaws.{counts_from}
 use Rattle.levels.proofs.level_sum.Given as goal
 
 abbrev pub invariant-loop-left : goal.invariant-loop-left

@@ -2,7 +2,6 @@
 use mathlib.Core.Path.{◌≡◌, sym, ap, ◌∙◌}
 use Prim.Native.Nat.{◌+◌}
 use native.Mathlib.Omega.{arith}
-use borrow.Author.Rules.{rules}
 use Rattle.automata.specs.Sets.{roots, roots_in}
 use Rattle.stored.specs.Form.{set_of}
 use Rattle.stored.specs.Rules.{levels_ok}
@@ -14,4 +13,3 @@ unfolding levels_ok
 returns c =
     let e : c.count_at-roots.result ≡ roots (set_of c.args.s.now) = sym (first-is c.args.s.now 12 (c.args.n + 1) c.count_at-roots.result (λ z. omega arith) c.count_at-roots.ensures) ∙ ap roots_in (counts-are c.args.s.now c.args.n c.requires) in
     simp (c.level_sum-total.ensures, e)
-

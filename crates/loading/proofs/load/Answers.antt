@@ -1,12 +1,11 @@
 -- `loading::load` meets its contract. Assumes nothing.
-use mathlib.Core.Path.{◌≡◌, sym, ◌∙◌}
+use mathlib.Core.Path.{sym, ◌∙◌}
 use native.Mathlib.Omega.{arith}
 use Rattle.stored.proofs.Reading.{Bytes}
 use Rattle.stored.specs.Judge.{judge_set}
 use Rattle.setfile.specs.Answer.{bounds_of, form_read}
 use Rattle.setfile.proofs.Taken.{taken}
 use Rattle.loading.proofs.Loaded.{not_taken, ready, roomy, roomy-kept, loaded}
-use borrow.Author.Rules.{rules}
 use Rattle.loading.proofs.load.Goals as goal
 
 pub unpack-requires : goal.unpack-requires

@@ -1,10 +1,7 @@
 -- The rows left, from here, give what all of them give. Assumes nothing.
-use mathlib.Core.Path.{◌≡◌, refl, sym, ap, ◌∙◌}
+use mathlib.Core.Path.{◌≡◌}
 use Prim.Native.Nat.{◌-◌}
-use borrow.Author.Rules.{rules}
 use Rattle.lookup.specs.Lookup.{row_with}
-use Rattle.lookup.specs.Answer.{found}
-use Rattle.lookup.proofs.Turns.{row_here, row_on, row-none}
 use Rattle.lookup.proofs.find_row.Given as goal
 
 abbrev pub invariant-loop-i : goal.invariant-loop-i

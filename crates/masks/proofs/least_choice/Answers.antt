@@ -6,4 +6,3 @@ use Rattle.masks.proofs.least_choice.Goals as goal
 pub returns : goal.returns
 returns c =
     (refl, trailing_le 32 c.args.m)
-

@@ -1,10 +1,8 @@
 -- The marks of the level are cleared, those of the levels below made, and then the level's own. The levels left fall. Assumes nothing.
-use Prim.Native.Nat.{ℕ, ◌+◌, ◌-◌, ◌<◌}
+use Prim.Native.Nat.{◌-◌}
 use Rattle.matching.proofs.Sounding.{ground_last, ground_inner, sound_last, sound_more}
-use Rattle.matching.proofs.Turns.{next_fits, long-level, letter-there, letter-small, levels-few, leaf-stage, again, one_less, seek_next, stage}
-use borrow.Author.Rules.{rules}
+use Rattle.matching.proofs.Turns.{next_fits, long-level, letter-small, leaf-stage, again, one_less, stage}
 use mathlib.Core.Path.{refl, sym, ◌∙◌}
-use native.Mathlib.Omega.{arith}
 use Rattle.matching.proofs.+hint_from.Goals as goal
 
 pub meet_none-requires : goal.meet_none-requires

@@ -1,6 +1,5 @@
 -- The next level begins where this one ends. Assumes nothing.
 use native.Mathlib.Omega.{arith}
-use borrow.Author.Rules.{rules}
 use Rattle.matching.proofs.LevelLaws.{next-sum, next_start, next-stop}
 use Rattle.matching.proofs.next_level.Goals as goal
 

@@ -1,20 +1,15 @@
 -- `moving::grow_pair` meets its contract: the meetings left, from the level held, give what all meetings give from the level at the start. A choice
 -- is left only where both states have rows. Assumes nothing.
-use mathlib.Core.Path.{◌≡◌, ap}
-use mathlib.Core.List.{List}
+use mathlib.Core.Path.{◌≡◌}
 use Prim.Native.Nat.{◌-◌, ◌<◌}
-use native.Mathlib.Omega.{arith}
-use lib.Bits.{bit_xor}
-use Rattle.automata.specs.Choice.{Alt, alt, together}
-use Rattle.gates.specs.Roles.{Two, pair_kids}
-use Rattle.lookup.specs.Lookup.{pair_row}
+use Rattle.automata.specs.Choice.{together}
+use Rattle.gates.specs.Roles.{pair_kids}
 use Rattle.roles.specs.Kept.{role_is, side_is}
 use Rattle.growing.specs.Growing.{level_in, Kept}
-use Rattle.growing.proofs.Growth.{over_state}
-use Rattle.growing.proofs.Going.{Going, going_first, going_on, going_last, no_more, kept-all, kept_on}
+use Rattle.growing.proofs.Going.{Going}
 use Rattle.lookup.specs.Alts.{alts_from}
-use Rattle.moving.specs.Moves.{grow_alt, grow_alts}
-use Rattle.moving.proofs.Meetings.{goes, shared-rows, meetings, meetings_first, meetings_turn, meetings_end}
+use Rattle.moving.specs.Moves.{grow_alts}
+use Rattle.moving.proofs.Meetings.{meetings}
 use Rattle.moving.proofs.grow_pair.Given as goal
 
 abbrev pub invariant-loop-left : goal.invariant-loop-left

@@ -1,5 +1,4 @@
 -- `moving::grow_row` meets its contract: the record that `grow` adds has the row's mask and the keys of the row's two children. Assumes nothing.
-use borrow.Author.Rules.{rules}
 use Rattle.moving.proofs.grow_row.Goals as goal
 
 pub returns : goal.returns

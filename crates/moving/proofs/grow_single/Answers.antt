@@ -6,9 +6,8 @@ use lib.ListN.{get_or}
 use Rattle.automata.specs.Choice.{alt, map_alt}
 use Rattle.lookup.specs.Lookup.{pair_row}
 use Rattle.roles.specs.Kept.{role_is, single_kids}
-use Rattle.growing.specs.Growing.{level_in, Kept}
 use Rattle.growing.proofs.Growth.{over_state}
-use Rattle.growing.proofs.Going.{Going, going_first, going_on, going_last, goes_on, goes_out, kept-all, kept_on}
+use Rattle.growing.proofs.Going.{going_first, going_on, going_last, goes_on, goes_out, kept-all, kept_on}
 use Rattle.lookup.specs.Alts.{alts_from}
 use Rattle.moving.specs.Moves.{grow_alt, grow_alts}
 use Rattle.moving.proofs.Rows.{single-turn, single-end}
@@ -17,7 +16,6 @@ use Rattle.moving.proofs.grow_single.Goals as goal
 pub loop-i-init : goal.loop-i-init
 loop-i-init c =
     (going_first c.requires.growing refl, kept-all _ _ _ _ _)
-
 
 pub grow_row-held-requires : goal.grow_row-held-requires
 grow_row-held-requires c =
@@ -32,12 +30,10 @@ overflow_add-i c =
     let t = goes_on c.loop-i.i c.args.to c.loop-i.held.ok c.loop-i-test.true in
     omega (arith, c.ranges.to, t.0)
 
-
 pub loop-i-smaller : goal.loop-i-smaller
 loop-i-smaller c =
     let t = goes_on c.loop-i.i c.args.to c.loop-i.held.ok c.loop-i-test.true in
     omega (arith, t.0)
-
 
 pub loop-i-preserved : goal.loop-i-preserved
 loop-i-preserved c =
@@ -49,7 +45,6 @@ loop-i-preserved c =
           (over_state c.args.most c.args.state _) c.grow_row-held.ensures.grew,
       kept_on c.loop-i.invariant.1 c.grow_row-held.ensures.kept,
     )
-
 
 pub returns : goal.returns
 returns c =

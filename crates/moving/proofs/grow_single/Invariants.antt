@@ -1,17 +1,11 @@
 -- `moving::grow_single` meets its contract: the rows left, from the level held, give what all rows give from the level at the start. Assumes nothing.
-use mathlib.Core.Path.{refl}
-use Prim.Native.Nat.{◌+◌, ◌-◌}
-use native.Mathlib.Omega.{arith}
-use lib.ListN.{get_or}
-use Rattle.automata.specs.Choice.{alt, map_alt}
-use Rattle.lookup.specs.Lookup.{pair_row}
+use Prim.Native.Nat.{◌-◌}
+use Rattle.automata.specs.Choice.{map_alt}
 use Rattle.roles.specs.Kept.{role_is, single_kids}
 use Rattle.growing.specs.Growing.{level_in, Kept}
-use Rattle.growing.proofs.Growth.{over_state}
-use Rattle.growing.proofs.Going.{Going, going_first, going_on, going_last, goes_on, goes_out, kept-all, kept_on}
+use Rattle.growing.proofs.Going.{Going}
 use Rattle.lookup.specs.Alts.{alts_from}
-use Rattle.moving.specs.Moves.{grow_alt, grow_alts}
-use Rattle.moving.proofs.Rows.{single-turn, single-end}
+use Rattle.moving.specs.Moves.{grow_alts}
 use Rattle.moving.proofs.grow_single.Given as goal
 
 abbrev pub invariant-loop-i : goal.invariant-loop-i

@@ -1,6 +1,5 @@
 -- The record that `grow` adds has the given mask and the keys of the two rows' children, since those are what it is handed. Assumes nothing.
 -- ---- far places by name
-use borrow.Author.Rules.{rules}
 use Rattle.gates.specs.Roles.{pair_kids}
 use Rattle.lookup.specs.Lookup.{pair_row}
 use Rattle.roles.specs.Kept.{role_is, side_is}

@@ -1,6 +1,5 @@
 -- `names::add` meets its contract: each slice has one store, at the place or at the bucket. Assumes nothing.
 use mathlib.Core.Path.{refl}
-use borrow.Author.Rules.{rules}
 use Rattle.names.proofs.add.Goals as goal
 
 pub returns : goal.returns

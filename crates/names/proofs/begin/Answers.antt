@@ -2,7 +2,7 @@
 -- Assumes nothing.
 use mathlib.Core.Path.{◌≡◌, ap, ◌∙◌}
 use mathlib.Core.List.{◌++◌, append-nil}
-use Prim.Native.Nat.{ℕ, ◌-◌, ◌<◌, ◌≤◌}
+use Prim.Native.Nat.{ℕ, ◌<◌}
 use native.Mathlib.Omega.{arith}
 use lib.ListN.{length, drop, replicate}
 use lib.Seq.{drop-length}
@@ -17,10 +17,8 @@ loop-i-preserved c =
     let below : l.i < length a.heads.now = omega arith in
     (search rules, search rules, rw l.invariant.2 (fill_more l.i 0 a.heads.now below))
 
-
 pub returns : goal.returns
 returns c =
     let old = c.args.heads.now in
     let end : c.loop-i.i ≡ length old = omega arith in
     c.loop-i.invariant.2 ∙ ap (λ (n : ℕ). replicate n 0 ++ drop n old) end ∙ rw (drop-length old) (append-nil (replicate (length old) 0))
-

@@ -1,13 +1,9 @@
 -- `names::begin` meets its contract. The loop's invariant: the first i cells are 0 and the rest are as they were. The measure is what is left.
 -- Assumes nothing.
-use mathlib.Core.Path.{◌≡◌, ap, ◌∙◌}
-use mathlib.Core.List.{◌++◌, append-nil}
-use Prim.Native.Nat.{ℕ, ◌-◌, ◌<◌, ◌≤◌}
-use native.Mathlib.Omega.{arith}
+use mathlib.Core.Path.{◌≡◌}
+use mathlib.Core.List.{◌++◌}
+use Prim.Native.Nat.{◌-◌, ◌≤◌}
 use lib.ListN.{length, drop, replicate}
-use lib.Seq.{drop-length}
-use borrow.Author.Fill.{fill_more}
-use borrow.Author.Rules.{rules}
 use Rattle.names.proofs.begin.Given as goal
 
 abbrev pub invariant-loop-i : goal.invariant-loop-i

@@ -2,7 +2,6 @@
 -- ---- far places by name
 use native.Mathlib.Omega.{arith}
 use mathlib.Core.Path.{refl}
-use borrow.Author.Rules.{rules}
 use Rattle.onegate.proofs.Judged.{the_reply, the_output, too_short, long_enough}
 use Rattle.onegate.proofs.one_gate.Goals as goal
 

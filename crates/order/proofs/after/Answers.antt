@@ -1,6 +1,5 @@
 -- Each field is the definition's. Assumes nothing.
 use native.Mathlib.Numerals.{add-one}
-use borrow.Author.Rules.{rules}
 use Rattle.order.specs.Pass.{run_after}
 use Rattle.order.proofs.after.Goals as goal
 
@@ -8,4 +7,3 @@ pub returns : goal.returns
 unfolding run_after
 returns c =
     simp (c.used_after-used.ensures, c.least_choice-least.ensures.0, add-one)
-

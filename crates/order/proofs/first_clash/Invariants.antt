@@ -1,17 +1,10 @@
 -- What is left of the pass, from here, comes to the whole pass, which finds the first clash. Assumes nothing.
-use mathlib.Core.Path.{◌≡◌, refl, sym, ap, ◌∙◌}
-use mathlib.Core.List.{List, []}
-use Prim.Native.Nat.{ℕ, suc, ◌+◌, ◌-◌, ◌*◌, ◌≤◌}
-use native.Mathlib.Omega.{arith}
+use mathlib.Core.Path.{◌≡◌}
+use Prim.Native.Nat.{◌+◌, ◌-◌, ◌*◌, ◌≤◌}
 use lib.ListN.{length}
-use borrow.Author.Rules.{rules}
-use borrow.Author.Tests.{not-true, not-false}
 use Rattle.stored.specs.Fields.{records_from}
-use Rattle.stored.specs.Rules.{first_clash}
-use Rattle.records.specs.Read.{bare, key_read}
-use Rattle.records.proofs.Step.{times, passed-one}
-use Rattle.order.specs.declared.Run.{Run}
-use Rattle.order.proofs.PassLaws.{first_unfit, start, pass_clash, unfit_turn, unfit_end}
+use Rattle.records.specs.Read.{key_read}
+use Rattle.order.proofs.PassLaws.{first_unfit, start}
 use Rattle.order.proofs.first_clash.Given as goal
 
 abbrev pub invariant-loop-left : goal.invariant-loop-left

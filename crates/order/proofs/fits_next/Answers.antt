@@ -1,5 +1,4 @@
 -- The test is the definition's own, at the record's least choice. Assumes nothing.
-use borrow.Author.Rules.{rules}
 use Rattle.order.specs.Pass.{fits_next}
 use Rattle.order.proofs.fits_next.Goals as goal
 
@@ -7,4 +6,3 @@ pub returns : goal.returns
 unfolding fits_next
 returns c =
     simp c.least_choice-least.ensures.0
-

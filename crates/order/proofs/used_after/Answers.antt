@@ -8,9 +8,7 @@ unfolding used_after
 returns-then-state-own c =
     simp (eq-eqb _ _ c.if-state-own.true)
 
-
 pub returns : goal.returns
 unfolding used_after
 returns c =
     simp (ne_eqb _ _ c.if-state-own.false)
-

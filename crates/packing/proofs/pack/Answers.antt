@@ -15,7 +15,6 @@ pub put_lfs-requires : goal.put_lfs-requires
 put_lfs-requires c =
     (search rules, c.requires.has_rows)
 
-
 pub returns : goal.returns
 returns c =
     let head = head_bytes c.args.n c.args.k c.args.states c.args.inner c.args.leaves in

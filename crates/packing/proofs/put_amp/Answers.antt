@@ -5,7 +5,6 @@ use Prim.Native.Nat.{ℕ, ◌+◌}
 use native.Mathlib.Omega.{arith}
 use Rattle.packing.specs.Written.{coef_bytes}
 use Rattle.putting.proofs.Front.{lent_on}
-use borrow.Author.Rules.{rules}
 use Rattle.packing.proofs.put_amp.Goals as goal
 
 pub returns : goal.returns
@@ -16,4 +15,3 @@ returns c =
     let two = lent_on c.args.out.now (coef c.args.at) (coef (c.args.at + 1)) refl (omega arith) c.put_coef.ensures c.put_coef-2.ensures in
     let three = lent_on c.args.out.now ab (coef (c.args.at + 2)) refl (omega arith) two c.put_coef-3.ensures in
     lent_on c.args.out.now abc (coef (c.args.at + 3)) refl (omega arith) three c.put_coef-4.ensures
-

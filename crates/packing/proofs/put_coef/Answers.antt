@@ -6,7 +6,6 @@ use mir.Syntax.{w32}
 use mir.Facts.{to_z-of_z}
 use Rattle.stored.specs.Fields.{bytes32, unsigned32}
 use Rattle.putting.specs.Front.{at_front}
-use borrow.Author.Rules.{rules}
 use Rattle.packing.proofs.put_coef.Goals as goal
 
 pub returns : goal.returns
@@ -14,4 +13,3 @@ returns c =
     let z : ℤ = get_or c.args.coefs.now c.args.at (pos 0) in
     c.put_i32.ensures
     ∙ ap (λ (x : ℤ). at_front (bytes32 (unsigned32 x)) c.args.out.now) (to_z-of_z {w = w32} {z = z} (record { sfits = c.put_i32-arg-2-1.given }))
-

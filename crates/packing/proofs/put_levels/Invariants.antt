@@ -1,9 +1,7 @@
 -- `packing::put_levels` meets its contract. The loop's invariant: i records are at the front, and the rest is as it was. Assumes nothing.
 use Prim.Native.Nat.{◌-◌}
-use native.Mathlib.Omega.{arith}
 use Rattle.stored.specs.Pack.{lv_bytes}
-use Rattle.packing.proofs.Rows.{lv_sized, Putting, begin, next, all, count_in, counts_part}
-use borrow.Author.Rules.{rules}
+use Rattle.packing.proofs.Rows.{Putting, count_in}
 use Rattle.packing.proofs.put_levels.Given as goal
 
 abbrev pub invariant-loop-i : goal.invariant-loop-i

@@ -8,7 +8,6 @@ use Rattle.tables.specs.Table.{leaf_row, lf_row}
 use Rattle.recording.specs.Record.{start_bytes}
 use Rattle.packing.specs.Written.{amp_from}
 use Rattle.putting.proofs.Front.{lent_on}
-use borrow.Author.Rules.{rules}
 use Rattle.packing.proofs.put_lf_row.Goals as goal
 
 pub returns : goal.returns
@@ -17,4 +16,3 @@ returns c =
     let start = start_bytes 76 70 (get_or c.args.rows.now (c.args.i * 3) 0) (get_or c.args.masks.now c.args.i 0) in
     lent_on c.args.out.now start (amp_bytes (amp_from c.args.coefs.now (c.wide-leaf.result * 4))) refl (omega arith) c.put_start.ensures c.put_amp.ensures
     ∙ simp c.wide-leaf.ensures.0
-

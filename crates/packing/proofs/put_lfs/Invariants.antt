@@ -1,11 +1,8 @@
 -- `packing::put_lfs` meets its contract. The loop's invariant: i records are at the front, and the rest is as it was. Assumes nothing.
-use Prim.Native.Nat.{◌+◌, ◌-◌}
-use native.Mathlib.Omega.{arith}
-use mathlib.Core.Path.{refl}
+use Prim.Native.Nat.{◌-◌}
 use Rattle.stored.specs.Pack.{lf_bytes}
-use Rattle.tables.specs.Table.{lf_row, lf_rows}
-use Rattle.packing.proofs.Rows.{lf_sized, Putting, begin, next, all}
-use borrow.Author.Rules.{rules}
+use Rattle.tables.specs.Table.{lf_row}
+use Rattle.packing.proofs.Rows.{Putting}
 use Rattle.packing.proofs.put_lfs.Given as goal
 
 abbrev pub invariant-loop-i : goal.invariant-loop-i

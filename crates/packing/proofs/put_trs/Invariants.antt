@@ -1,10 +1,8 @@
 -- `packing::put_trs` meets its contract. The loop's invariant: i records are at the front, and the rest is as it was. Assumes nothing.
 use Prim.Native.Nat.{◌-◌}
-use native.Mathlib.Omega.{arith}
 use Rattle.stored.specs.Pack.{tr_bytes}
-use Rattle.tables.specs.Table.{tr_row, tr_rows}
-use Rattle.packing.proofs.Rows.{tr-sized, Putting, begin, next, all}
-use borrow.Author.Rules.{rules}
+use Rattle.tables.specs.Table.{tr_row}
+use Rattle.packing.proofs.Rows.{Putting}
 use Rattle.packing.proofs.put_trs.Given as goal
 
 abbrev pub invariant-loop-i : goal.invariant-loop-i

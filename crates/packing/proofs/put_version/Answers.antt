@@ -1,15 +1,13 @@
 -- `packing::put_version` meets its contract: its six stores are a run of six bytes from cell 0 on. Assumes nothing.
-use mathlib.Core.List.{[], ◌∷◌}
+use mathlib.Core.List.{◌∷◌}
 use native.Mathlib.Omega.{arith}
 use lib.ListN.{length-set}
 use Rattle.putting.proofs.Front.{stored}
-use borrow.Author.Rules.{rules}
 use Rattle.packing.proofs.put_version.Goals as goal
 
 pub returns : goal.returns
 returns c =
     stored (72 ∷ 68 ∷ 1 ∷ c.args.n ∷ c.args.k ∷ 0 ∷ []) c.args.out.now c.requires
-
 
 pub bounds-out-1 : goal.bounds-out-1
 bounds-out-1 c = simp length-set (omega arith)

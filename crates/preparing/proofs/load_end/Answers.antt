@@ -1,5 +1,5 @@
 -- `preparing::load_end` meets its contract. Assumes nothing.
-use mathlib.Core.Path.{◌≡◌, sym, ap, ◌∙◌}
+use mathlib.Core.Path.{sym, ap, ◌∙◌}
 use Rattle.stored.specs.Refusal.{end_source}
 use Rattle.stored.specs.Form.{set_of}
 use Rattle.stored.specs.Judge.{judge_set}
@@ -8,7 +8,6 @@ use Rattle.setfile.proofs.Taken.{taken, turned_down}
 use Rattle.loading.proofs.Loaded.{form-taken}
 use Rattle.preparing.specs.Prepared.{form_answer, end_judged}
 use Rattle.preparing.proofs.Preparations.{never, end_refused, end-taken, end-set}
-use borrow.Author.Rules.{rules}
 use Rattle.preparing.proofs.load_end.Goals as goal
 
 pub returns-in-Bad : goal.returns-in-Bad

@@ -1,15 +1,13 @@
 -- `preparing::prepare` meets its contract. Assumes nothing.
-use mathlib.Core.Path.{◌≡◌, sym, ap, ◌∙◌}
+use mathlib.Core.Path.{sym, ap, ◌∙◌}
 use Rattle.stored.specs.Refusal.{start_source, good}
 use Rattle.stored.specs.Form.{set_of}
 use Rattle.stored.specs.Judge.{judge_set}
 use Rattle.setfile.specs.Answer.{bounds_of, form_read}
 use Rattle.setfile.proofs.Taken.{taken, turned_down}
 use Rattle.loading.proofs.Loaded.{form-taken}
-use Rattle.automata.specs.Sets.{QSet}
 use Rattle.preparing.specs.Prepared.{prepared_of, files_judged}
 use Rattle.preparing.proofs.Preparations.{never, refused-answer, files_no, files_yes, rest-start}
-use borrow.Author.Rules.{rules}
 use Rattle.preparing.proofs.prepare.Goals as goal
 
 pub returns-in-Bad : goal.returns-in-Bad

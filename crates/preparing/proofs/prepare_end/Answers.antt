@@ -1,11 +1,9 @@
 -- `preparing::prepare_end` meets its contract. Assumes nothing.
-use mathlib.Core.Path.{◌≡◌, sym, ap, ◌∙◌}
+use mathlib.Core.Path.{sym, ◌∙◌}
 use Rattle.setfile.specs.Answer.{bounds_of}
 use Rattle.jobs.specs.Check.{ready}
 use Rattle.preparing.specs.Prepared.{end_judged, end_ready}
 use Rattle.preparing.proofs.Preparations.{told-good, told-bad, ready_no, ready-yes, refused-answer, ready-answer}
-use mathlib.Core.Path.{refl}
-use borrow.Author.Rules.{rules}
 use Rattle.preparing.proofs.prepare_end.Goals as goal
 
 pub returns-in-Bad : goal.returns-in-Bad

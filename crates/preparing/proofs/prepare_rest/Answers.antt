@@ -1,10 +1,9 @@
 -- `preparing::prepare_rest` meets its contract. Assumes nothing.
-use mathlib.Core.Path.{◌≡◌, sym, ap, ◌∙◌}
+use mathlib.Core.Path.{sym, ap, ◌∙◌}
 use Rattle.gates.specs.Circuit.{judge_circuit}
 use Rattle.setfile.specs.Answer.{bounds_of}
 use Rattle.preparing.specs.Prepared.{prepared_of, rest_judged}
 use Rattle.preparing.proofs.Preparations.{never, counted, wrong_circuit, rest_no, rest-yes, rest_end, refused-answer}
-use borrow.Author.Rules.{rules}
 use Rattle.preparing.proofs.prepare_rest.Goals as goal
 
 pub returns-in-Bad : goal.returns-in-Bad

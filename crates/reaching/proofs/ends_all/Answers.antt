@@ -1,12 +1,9 @@
 -- The states so far have their transitions. Assumes nothing.
-use mathlib.Core.Path.{◌≡◌, sym, ◌∙◌}
+use mathlib.Core.Path.{sym, ◌∙◌}
 use mathlib.Core.Bool.{true}
-use Prim.Native.Nat.{ℕ, ◌-◌, ◌≤◌, max}
+use Prim.Native.Nat.{ℕ, ◌-◌}
 use native.Mathlib.Omega.{arith}
-use borrow.Author.Rules.{rules}
-use borrow.Author.Tests.{not-true, not-false}
 use Rattle.lookup.specs.Lookup.{transition_row, is_some}
-use Rattle.meeting.specs.All.{all_in}
 use Rattle.meeting.proofs.AllLaws.{all_none, all_on, all-stops, all_done}
 use Rattle.reaching.specs.Reached.{if_reached, all_reached}
 use Rattle.reaching.proofs.ends_all.Goals as goal
@@ -15,25 +12,20 @@ pub loop-s-init : goal.loop-s-init
 loop-s-init c =
     (omega arith, omega arith, all_none (if_reached (λ (q : ℕ). is_some (transition_row c.args.masks.now c.args.first.now q c.args.c)) c.args.reached.now) c.args.from (c.args.from - c.args.from) (omega arith))
 
-
 pub ends-requires : goal.ends-requires
 ends-requires c =
     (c.requires.0 c.loop-s.s c.loop-s.invariant.0 c.loop-s-test.true, omega (arith, c.loop-s-test.true, c.requires.1), c.requires.2)
-
 
 pub returns-then-not-ends : goal.returns-then-not-ends
 unfolding all_reached
 returns-then-not-ends c =
     all-stops (if_reached (λ (q : ℕ). is_some (transition_row c.args.masks.now c.args.first.now q c.args.c)) c.args.reached.now) c.args.from c.loop-s.s c.args.to c.loop-s.invariant.0 c.loop-s-test.true (sym c.ends.ensures ∙ c.if-not-ends.true)
 
-
 pub loop-s-preserved : goal.loop-s-preserved
 loop-s-preserved c =
     (omega arith, omega arith, all_on (if_reached (λ (q : ℕ). is_some (transition_row c.args.masks.now c.args.first.now q c.args.c)) c.args.reached.now) c.args.from c.loop-s.s c.loop-s.invariant.0 c.loop-s.invariant.2 (sym c.ends.ensures ∙ c.if-not-ends.false))
-
 
 pub returns : goal.returns
 unfolding all_reached
 returns c =
     all_done (if_reached (λ (q : ℕ). is_some (transition_row c.args.masks.now c.args.first.now q c.args.c)) c.args.reached.now) c.args.from c.loop-s.s c.args.to c.loop-s-test.false c.loop-s.invariant.1 c.loop-s.invariant.2
-

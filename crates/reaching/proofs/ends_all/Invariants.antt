@@ -1,14 +1,10 @@
 -- The states so far have their transitions. Assumes nothing.
-use mathlib.Core.Path.{◌≡◌, sym, ◌∙◌}
+use mathlib.Core.Path.{◌≡◌}
 use mathlib.Core.Bool.{true}
 use Prim.Native.Nat.{ℕ, ◌-◌, ◌≤◌, max}
-use native.Mathlib.Omega.{arith}
-use borrow.Author.Rules.{rules}
-use borrow.Author.Tests.{not-true, not-false}
 use Rattle.lookup.specs.Lookup.{transition_row, is_some}
 use Rattle.meeting.specs.All.{all_in}
-use Rattle.meeting.proofs.AllLaws.{all_none, all_on, all-stops, all_done}
-use Rattle.reaching.specs.Reached.{if_reached, all_reached}
+use Rattle.reaching.specs.Reached.{if_reached}
 use Rattle.reaching.proofs.ends_all.Given as goal
 
 abbrev pub invariant-loop-s : goal.invariant-loop-s

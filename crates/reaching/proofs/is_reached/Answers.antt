@@ -7,4 +7,3 @@ pub returns : goal.returns
 unfolding is_reached
 returns c =
     search rules
-

@@ -1,5 +1,4 @@
 -- The row is looked up; where it is there its children are reached. Assumes nothing.
-use borrow.Author.Rules.{rules}
 use Rattle.stepping.proofs.Steps.{moves, stays}
 use Rattle.reaching.proofs.Spreads.{spread_none, kids-there, spread_kids}
 use Rattle.reaching.proofs.reach_moved.Goals as goal
@@ -8,13 +7,10 @@ pub returns-in_default : goal.returns-in_default
 returns-in_default c =
     λ from to ready. spread_none c.args.reached.now from to _ (stays c.args.rows.now c.args.masks.now c.args.first.now c.args.s c.args.c c.transition-found.ensures c.in_default.is)
 
-
 pub reach_kids-requires : goal.reach_kids-requires
 reach_kids-requires c =
     kids-there c.requires.0.2 (moves c.args.rows.now c.args.masks.now c.args.first.now c.args.s c.args.c c.transition-found.ensures c.in-Row.i c.in-Row.is)
 
-
 pub returns : goal.returns
 returns c =
     λ from to ready. spread_kids ready (moves c.args.rows.now c.args.masks.now c.args.first.now c.args.s c.args.c c.transition-found.ensures c.in-Row.i c.in-Row.is) c.reach_kids.ensures
-

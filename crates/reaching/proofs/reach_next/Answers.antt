@@ -1,5 +1,4 @@
 -- The next level is emptied, and then the children of all reached states are reached there. Assumes nothing.
-use borrow.Author.Rules.{rules}
 use Rattle.reaching.specs.Reached.{kids_in}
 use Rattle.reaching.proofs.Spreads.{stage-again, gone}
 use Rattle.reaching.proofs.reach_next.Goals as goal
@@ -8,8 +7,6 @@ pub reach_states-requires : goal.reach_states-requires
 reach_states-requires c =
     ((c.args.till, stage-again c.reach_none.auto.reached c.requires.0), c.requires.1)
 
-
 pub returns : goal.returns
 returns c =
     gone (kids_in c.args.rows.now c.args.masks.now c.args.first.now c.args.c) c.args.from c.reach_none.ensures (c.reach_states.ensures c.args.till (stage-again c.reach_none.auto.reached c.requires.0))
-

@@ -1,7 +1,6 @@
 -- Cell after cell becomes zero. Assumes nothing.
 use Prim.Native.Nat.{◌-◌}
-use borrow.Author.Rules.{rules}
-use Rattle.reaching.proofs.ReachLaws.{Clearing, clear_begin, clear_next, clear_all}
+use Rattle.reaching.proofs.ReachLaws.{Clearing}
 use Rattle.reaching.proofs.reach_none.Given as goal
 
 abbrev pub invariant-loop-s : goal.invariant-loop-s

@@ -1,13 +1,10 @@
 -- The states so far were walked over. Assumes nothing.
-use mathlib.Core.Path.{◌≡◌, refl}
+use mathlib.Core.Path.{◌≡◌}
 use mathlib.Core.Bool.{true}
 use Prim.Native.Nat.{ℕ, ◌-◌, ◌≤◌, max}
-use native.Mathlib.Omega.{arith}
 use lib.ListN.{length}
-use borrow.Author.Rules.{rules}
-use borrow.Author.Tests.{not-true, not-false}
 use Rattle.reaching.specs.Reached.{kids_in, Stage}
-use Rattle.reaching.proofs.Spreads.{Walked, walk_none, walk_all, walk_more, walk_stops, ready-again, stage_state}
+use Rattle.reaching.proofs.Spreads.{Walked}
 use Rattle.reaching.proofs.reach_states.Given as goal
 
 abbrev pub invariant-loop-s : goal.invariant-loop-s

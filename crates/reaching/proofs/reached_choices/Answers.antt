@@ -1,15 +1,13 @@
 -- The mask has the choices that all reached states so far have. Assumes nothing.
 -- state s has choice d if it is reached
-use mathlib.Core.Path.{◌≡◌, ap, ◌∙◌}
+use mathlib.Core.Path.{ap, ◌∙◌}
 use mathlib.Core.Bool.{Bool, true, ◌&&◌}
-use mathlib.Core.List.{List}
-use Prim.Native.Nat.{ℕ, ◌+◌, ◌-◌, ◌<◌, ◌≤◌, max}
+use Prim.Native.Nat.{◌-◌}
 use native.Mathlib.Omega.{arith}
-use borrow.Author.Rules.{rules}
 use Rattle.automata.specs.Choice.{has}
 use Rattle.meeting.specs.All.{all_in}
 use Rattle.sharing.proofs.Shares.{share_none, share_more, share_all, full}
-use Rattle.reaching.specs.Reached.{if_reached, all_reached, has_choice}
+use Rattle.reaching.specs.Reached.{all_reached}
 use Rattle.reaching.proofs.reached_choices.Invariants.{F}
 use Rattle.reaching.proofs.reached_choices.Goals as goal
 
@@ -17,16 +15,13 @@ pub loop-s-init : goal.loop-s-init
 loop-s-init c =
     (omega arith, omega arith, λ d. share_none (F c.args.masks.now c.args.first.now c.args.reached.now d) (has 4294967295 d) c.args.from)
 
-
 pub reached_state-left-requires : goal.reached_state-left-requires
 reached_state-left-requires c =
     (c.requires.0 c.loop-s.s c.loop-s.invariant.0 c.loop-s-test.true, omega (arith, c.loop-s-test.true, c.requires.1))
 
-
 pub loop-s-preserved : goal.loop-s-preserved
 loop-s-preserved c =
     (omega arith, omega arith, λ d. share_more (F c.args.masks.now c.args.first.now c.args.reached.now d) (has 4294967295 d) c.args.from c.loop-s.s c.loop-s.invariant.0 (c.loop-s.invariant.2 d) (c.reached_state-left.ensures d))
-
 
 pub returns : goal.returns
 unfolding all_reached
@@ -34,4 +29,3 @@ returns c =
     λ d lt.
     share_all (F c.args.masks.now c.args.first.now c.args.reached.now d) (has 4294967295 d) c.args.from c.args.to c.loop-s.s c.loop-s-test.false c.loop-s.invariant.1 (c.loop-s.invariant.2 d)
     ∙ ap (λ (b : Bool). b && all_in (F c.args.masks.now c.args.first.now c.args.reached.now d) c.args.from (c.args.to - c.args.from)) (full d lt)
-

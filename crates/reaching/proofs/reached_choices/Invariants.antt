@@ -1,20 +1,16 @@
 -- The mask has the choices that all reached states so far have. Assumes nothing.
 -- state s has choice d if it is reached
-use mathlib.Core.Path.{◌≡◌, ap, ◌∙◌}
-use mathlib.Core.Bool.{Bool, true, ◌&&◌}
+use mathlib.Core.Path.{◌≡◌}
+use mathlib.Core.Bool.{Bool, ◌&&◌}
 use mathlib.Core.List.{List}
-use Prim.Native.Nat.{ℕ, ◌+◌, ◌-◌, ◌<◌, ◌≤◌, max}
-use native.Mathlib.Omega.{arith}
-use borrow.Author.Rules.{rules}
+use Prim.Native.Nat.{ℕ, ◌-◌, ◌≤◌, max}
 use Rattle.automata.specs.Choice.{has}
 use Rattle.meeting.specs.All.{all_in}
-use Rattle.sharing.proofs.Shares.{share_none, share_more, share_all, full}
-use Rattle.reaching.specs.Reached.{if_reached, all_reached, has_choice}
+use Rattle.reaching.specs.Reached.{if_reached, has_choice}
 use Rattle.reaching.proofs.reached_choices.Given as goal
 
 abbrev pub F : (masks first reached : List ℕ) (d : ℕ) → ℕ → Bool
 F masks first reached d = if_reached (has_choice masks first d) reached
-
 
 abbrev pub invariant-loop-s : goal.invariant-loop-s
 invariant-loop-s l =

@@ -1,5 +1,4 @@
 -- An LV record's count stands behind its mark. Assumes nothing.
-use borrow.Author.Rules.{rules}
 use Rattle.stored.specs.Form.{count_at}
 use Rattle.records.proofs.count_at.Goals as goal
 
@@ -7,4 +6,3 @@ pub returns : goal.returns
 unfolding count_at
 returns c =
     c.u16_at.ensures
-

@@ -1,5 +1,4 @@
 -- Each field is the number at its place. Assumes nothing.
-use borrow.Author.Rules.{rules}
 use Rattle.records.specs.Read.{key_read}
 use Rattle.records.proofs.key_fields.Goals as goal
 
@@ -7,4 +6,3 @@ pub returns : goal.returns
 unfolding key_read
 returns c =
     cc
-

@@ -1,6 +1,6 @@
 -- Each field is the number at its place, the first two as the reader gives them. Assumes nothing.
 use mathlib.Core.Path.{◌∙◌}
-use borrow.Author.Rules.{rules, sfits_of}
+use borrow.Author.Rules.{sfits_of}
 use Rattle.fields.proofs.Kept.{bits_kept}
 use Rattle.records.specs.Read.{key_read, lf_read}
 use Rattle.records.proofs.lf_at.Goals as goal
@@ -15,4 +15,3 @@ returns c =
       bits_kept c.i32_at-a.result (sfits_of c.i32_at-a.type_inv) ∙ c.i32_at-a.ensures,
       c.key_at-key.ensures,
     )
-

@@ -1,7 +1,6 @@
 -- Word after word is copied. Assumes nothing.
 use Prim.Native.Nat.{◌-◌}
-use borrow.Author.Rules.{rules}
-use Rattle.relating.proofs.Copies.{Copying, begin, next, all}
+use Rattle.relating.proofs.Copies.{Copying}
 use Rattle.relating.proofs.copy_words.Given as goal
 
 abbrev pub invariant-loop-i : goal.invariant-loop-i

@@ -1,15 +1,12 @@
 -- The relations before j do not lead there. Assumes nothing.
-use mathlib.Core.Path.{◌≡◌, sym, ◌∙◌}
+use mathlib.Core.Path.{◌≡◌}
 use mathlib.Core.Bool.{false}
 use mathlib.Core.List.{List}
 use Prim.Native.Nat.{ℕ, ◌-◌, ◌<◌}
-use native.Mathlib.Omega.{arith}
 use lib.ListN.{get_or}
 use Rattle.lookup.specs.Alts.{table_automaton}
-use Rattle.meeting.proofs.Places.{words-before}
 use Rattle.matching.specs.Seeking.{sought}
 use Rattle.relating.specs.Found.{plane_of}
-use Rattle.relating.proofs.Relations.{below-is, below_none, none_on}
 use Rattle.relating.proofs.leads.Given as goal
 
 abbrev pub invariant-loop-j : goal.invariant-loop-j

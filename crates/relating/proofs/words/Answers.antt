@@ -1,10 +1,8 @@
 -- Numbers of 16 bits have a product of 32. Assumes nothing.
 use native.Mathlib.Omega.{arith}
-use borrow.Author.Rules.{rules}
 use Rattle.meeting.proofs.Places.{small_product}
 use Rattle.relating.proofs.words.Goals as goal
 
 pub overflow_mul-result : goal.overflow_mul-result
 overflow_mul-result c =
     omega (arith, small_product c.args.count c.args.wide (omega arith) (omega arith))
-

@@ -1,6 +1,5 @@
 -- `release::zhargutai_check` meets its contract: a reply buffer under 64 bytes gives 17 before all else. Assumes nothing.
 -- ---- far places by name
-use borrow.Author.Rules.{rules}
 use Rattle.release.proofs.Checked.{short-number, short_buffer, long-number, long_buffer}
 use Rattle.release.proofs.zhargutai_check.Goals as goal
 

@@ -1,7 +1,5 @@
 -- `release::zhargutai_one_gate` meets its contract: a reply buffer under 64 bytes gives 17 before all else. Assumes nothing.
 -- ---- far places by name
-use native.Mathlib.Omega.{arith}
-use borrow.Author.Rules.{rules}
 use Rattle.release.proofs.Entered.{short-number, short_output, short_buffer, long-number, long_output, long_buffer}
 use Rattle.release.proofs.zhargutai_one_gate.Goals as goal
 

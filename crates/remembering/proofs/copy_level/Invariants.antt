@@ -1,7 +1,6 @@
 -- The cells passed are copied. Assumes nothing.
 use Prim.Native.Nat.{◌-◌}
-use borrow.Author.Rules.{rules}
-use Rattle.remembering.proofs.CopyLaws.{Copying, copy_begin, copy_next, copy_all}
+use Rattle.remembering.proofs.CopyLaws.{Copying}
 use Rattle.remembering.proofs.copy_level.Given as goal
 
 abbrev pub invariant-loop-i : goal.invariant-loop-i

@@ -1,8 +1,6 @@
 -- The planes passed are copied. Assumes nothing.
 use Prim.Native.Nat.{◌-◌}
-use native.Mathlib.Omega.{arith}
-use borrow.Author.Rules.{rules}
-use Rattle.remembering.proofs.PlaneLaws.{plane_spans, CopyingPlanes, copies_begin, copies_next, copies_all, later_spans}
+use Rattle.remembering.proofs.PlaneLaws.{CopyingPlanes}
 use Rattle.remembering.proofs.copy_planes.Given as goal
 
 abbrev pub invariant-loop-done : goal.invariant-loop-done

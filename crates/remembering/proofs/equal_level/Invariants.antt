@@ -1,8 +1,6 @@
 -- The cells passed are the same. Assumes nothing.
-use mathlib.Core.Bool.{false≢true}
 use Prim.Native.Nat.{◌-◌}
-use borrow.Author.Rules.{rules}
-use Rattle.remembering.proofs.CopyLaws.{Comparing, begin, next, all}
+use Rattle.remembering.proofs.CopyLaws.{Comparing}
 use Rattle.remembering.proofs.equal_level.Given as goal
 
 abbrev pub invariant-loop-i : goal.invariant-loop-i

@@ -1,9 +1,5 @@
 -- Slot after slot; what the first that holds the block says. Assumes nothing.
-use mathlib.Core.Path.{refl}
 use Prim.Native.Nat.{◌-◌, ◌≤◌}
-use borrow.Author.Rules.{rules}
-use Rattle.remembering.proofs.MemoryLaws.{held-says}
-use Rattle.remembering.proofs.SlotLaws.{fits-placed, cell_below}
 use Rattle.remembering.proofs.find.Given as goal
 
 abbrev pub invariant-loop-k : goal.invariant-loop-k

@@ -5,4 +5,3 @@ use Rattle.replies.proofs.fails.Goals as goal
 pub returns : goal.returns
 returns c =
     λ w e. is-fails c.args.place c.args.root w e
-

@@ -1,6 +1,5 @@
 -- `replies::put_reply` meets its contract: a buffer of 64 bytes or more has the reply at its front, and a shorter one is not touched.
 -- Assumes nothing.
-use borrow.Author.Rules.{rules}
 use borrow.Author.Tests.{le-leb, lt-leb}
 use Rattle.replies.specs.Laid.{bytes_of, laid, told}
 use Rattle.replies.proofs.put_reply.Goals as goal

@@ -1,6 +1,6 @@
 -- `replies::put_whole` meets its contract: the six parts, each in the tail that the one before it left, are the reply's bytes. Assumes nothing.
 use mathlib.Core.Path.{◌≡◌, refl, ap, ◌∙◌}
-use mathlib.Core.List.{List, [], ◌∷◌, ◌++◌}
+use mathlib.Core.List.{List, ◌∷◌, ◌++◌}
 use Prim.Native.Nat.{ℕ}
 use native.Mathlib.Omega.{arith}
 use lib.ListN.{length, drop, replicate, length-append}
@@ -14,11 +14,9 @@ pub slice_bounds-put_bytes-end-2 : goal.slice_bounds-put_bytes-end-2
 slice_bounds-put_bytes-end-2 c =
     search rules
 
-
 pub put_bytes-requires : goal.put_bytes-requires
 put_bytes-requires c =
-    omega (arith, word_long c)
-
+    search rules
 
 pub returns : goal.returns
 unfolding bytes_of
@@ -27,12 +25,10 @@ returns c =
     let place = kind ++ bytes32 c.args.reply.place in
     let count = place ++ bytes32 c.args.reply.count in
     let root = count ++ bytes32 c.args.reply.root in
-    let long = word_long c.before.before.before.before.before.before.before in
     let placed = lent_on c.args.out.now kind (bytes32 c.args.reply.place) refl (omega arith) c.put_kind.ensures c.put_u32.ensures in
     let numbered = lent_on c.args.out.now place (bytes32 c.args.reply.count) refl (omega arith) placed c.put_u32-2.ensures in
     let rooted = lent_on c.args.out.now count (bytes32 c.args.reply.root) refl (omega arith) numbered c.put_u32-3.ensures in
     let worded = lent_on c.args.out.now root c.args.reply.word refl (omega arith) rooted c.put_bytes.ensures in
     let whole = lent_on c.args.out.now (root ++ c.args.reply.word) (replicate 27 0) (omega arith) (omega arith) worded c.zero_front_u8.ensures in
     let size : length (bytes_of c.args.reply) ≡ 64 = omega (arith, length-append c.args.reply.word (replicate 27 0)) in
-    whole ∙ ap (λ (c.before.before.before.before.before.before.before.before.before.before.before.before.before.before.before.before : ℕ). bytes_of c.args.reply ++ drop c.before.before.before.before.before.before.before.before.before.before.before.before.before.before.before.before c.args.out.now) size
-
+    whole ∙ ap (λ (n : ℕ). bytes_of c.args.reply ++ drop n c.args.out.now) size

@@ -5,4 +5,3 @@ use Rattle.replies.proofs.refused.Goals as goal
 pub returns : goal.returns
 returns c =
     is-refusal c.args.r
-

@@ -7,8 +7,6 @@ pub returns-then-level-t : goal.returns-then-level-t
 returns-then-level-t c =
     rw (eq-eqb c.args.level c.args.t c.if-level-t.true, kind_forth)
 
-
 pub returns : goal.returns
 returns c =
     rw (ne_eqb c.args.level c.args.t c.if-level-t.false)
-

@@ -1,15 +1,10 @@
 -- What is left of the scan, from here, comes to the whole scan. Assumes nothing.
-use mathlib.Core.Path.{◌≡◌, sym, ◌∙◌}
+use mathlib.Core.Path.{◌≡◌}
 use Prim.Native.Nat.{◌+◌, ◌-◌, ◌*◌, ◌≤◌}
-use native.Mathlib.Omega.{arith}
 use lib.ListN.{length}
-use borrow.Author.Rules.{rules}
-use borrow.Author.Tests.{not-true, not-false}
 use Rattle.stored.specs.Fields.{records_from}
 use Rattle.stored.specs.Rules.{first_bad}
-use Rattle.records.proofs.Step.{times, passed-one}
 use Rattle.scans.specs.Asked.{passes_at}
-use Rattle.scans.proofs.ScanTurns.{bad-turn, bad-none}
 use Rattle.scans.proofs.first_bad.Given as goal
 
 abbrev pub invariant-loop-left : goal.invariant-loop-left

@@ -1,6 +1,5 @@
 -- Each part is its rules', of the set that the bytes hold. Assumes nothing.
 use mathlib.Core.Path.{ap, ◌∙◌}
-use borrow.Author.Rules.{rules}
 use Rattle.stored.specs.Form as stored
 use Rattle.setfile.specs.Broken.{body_broken}
 use Rattle.setfile.proofs.BodyLaws.{levelled}
@@ -9,7 +8,6 @@ use Rattle.setfile.proofs.body_broken.Goals as goal
 pub levels_ok-requires : goal.levels_ok-requires
 levels_ok-requires c =
     levelled c.args.s.now c.args.form c.requires
-
 
 pub returns : goal.returns
 unfolding body_broken
@@ -23,4 +21,3 @@ returns c =
       c.marks_broken-marks.ensures,
       ap (λ (F : stored.Form). F.states) c.requires.is,
     )
-

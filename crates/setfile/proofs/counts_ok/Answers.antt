@@ -7,4 +7,3 @@ pub returns : goal.returns
 unfolding counts_ok
 returns c =
     refl
-

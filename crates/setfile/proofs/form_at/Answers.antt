@@ -1,5 +1,4 @@
 -- Each field is the number at its place. Assumes nothing.
-use borrow.Author.Rules.{rules}
 use Rattle.stored.specs.Form.{form_of}
 use Rattle.setfile.specs.Answer.{form_read}
 use Rattle.setfile.proofs.form_at.Goals as goal
@@ -8,4 +7,3 @@ pub returns : goal.returns
 unfolding form_read form_of
 returns c =
     cc
-

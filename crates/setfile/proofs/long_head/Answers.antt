@@ -1,6 +1,5 @@
 -- Each test is its rule's, of the header that was read. Assumes nothing.
 use mathlib.Core.Path.{◌∙◌}
-use borrow.Author.Rules.{rules}
 use borrow.Author.Tests.{le-leb}
 use Rattle.stored.specs.Rules.{head_ok, version_ok, length_ok}
 use Rattle.setfile.specs.Answer.{form_read}
@@ -19,4 +18,3 @@ returns c =
       c.form_at-form.ensures,
       le-leb _ _ c.requires,
     )
-

@@ -6,8 +6,6 @@ pub returns-then-number-eq0 : goal.returns-then-number-eq0
 returns-then-number-eq0 c =
     rw (eq-eqb c.args.broken.number 0 c.if-number-eq0.true)
 
-
 pub returns : goal.returns
 returns c =
     rw (ne_eqb c.args.broken.number 0 c.if-number-eq0.false)
-

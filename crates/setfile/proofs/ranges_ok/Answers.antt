@@ -1,6 +1,5 @@
 -- The test is the definition's own. Assumes nothing.
 use mathlib.Core.Path.{refl}
-use borrow.Author.Rules.{rules}
 use Rattle.stored.specs.Rules.{ranges_ok}
 use Rattle.setfile.proofs.ranges_ok.Goals as goal
 
@@ -8,4 +7,3 @@ pub returns : goal.returns
 unfolding ranges_ok
 returns c =
     refl
-

@@ -1,6 +1,5 @@
 -- The first of the three that is broken. Assumes nothing.
 use mathlib.Core.Path.{◌∙◌}
-use borrow.Author.Rules.{rules}
 use Rattle.setfile.specs.Broken.{records_broken}
 use Rattle.setfile.proofs.records_broken.Goals as goal
 
@@ -8,4 +7,3 @@ pub returns : goal.returns
 unfolding records_broken
 returns c =
     c.or_else-2.ensures ∙ simp (c.or_else.ensures, c.order_broken-order.ensures, c.lfs_broken-lfs.ensures, c.trs_broken-trs.ensures)
-

@@ -5,4 +5,3 @@ use Rattle.setfile.proofs.tr_number.Goals as goal
 pub returns : goal.returns
 returns c =
     search rules
-

@@ -5,8 +5,6 @@ pub returns-then-kept : goal.returns-then-kept
 returns-then-kept c =
     rw c.if-kept.true
 
-
 pub returns : goal.returns
 returns c =
     rw c.if-kept.false
-

@@ -1,10 +1,6 @@
 -- `settling::settle` meets its contract: rows are looked up exactly where all three answers are good. Assumes nothing.
-use mathlib.Core.Path.{◌≡◌, ◌∙◌}
-use mathlib.Core.Bool.{true, ◌&&◌}
 use Prim.Native.Nat.{◌+◌}
-use native.Mathlib.Omega.{arith}
 use lib.Dec.{leb}
-use borrow.Author.Rules.{rules}
 use Rattle.amplitude.proofs.Equal.{both}
 use Rattle.settling.proofs.settle.Goals as goal
 
@@ -14,7 +10,6 @@ index_rows-requires c =
     (let p = both (leb (c.args.form.k + c.args.grown) 64) _ o in
     let q = both c.args.r.ok _ p.1 in
     c.requires.indexable p.0 q.0 q.1)
-
 
 pub returns : goal.returns
 returns c =

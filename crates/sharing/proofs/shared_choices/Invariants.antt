@@ -1,20 +1,16 @@
 -- The mask has the choices that the end states of all image states so far have. Assumes nothing.
 -- all end states that image state s meets have choice d
-use mathlib.Core.Path.{◌≡◌, ap, ◌∙◌}
-use mathlib.Core.Bool.{Bool, true, ◌&&◌}
+use mathlib.Core.Path.{◌≡◌}
+use mathlib.Core.Bool.{Bool, ◌&&◌}
 use mathlib.Core.List.{List}
-use Prim.Native.Nat.{ℕ, ◌+◌, ◌-◌, ◌<◌, ◌≤◌, max}
-use native.Mathlib.Omega.{arith}
-use borrow.Author.Rules.{rules}
+use Prim.Native.Nat.{ℕ, ◌-◌, ◌≤◌, max}
 use Rattle.automata.specs.Choice.{has}
-use Rattle.meeting.specs.All.{all_in, met_by, met_in}
+use Rattle.meeting.specs.All.{all_in, met_by}
 use Rattle.sharing.specs.Shared.{has_choice}
-use Rattle.sharing.proofs.Shares.{share_none, share_more, share_all, full}
 use Rattle.sharing.proofs.shared_choices.Given as goal
 
 abbrev pub F : (endmasks endfirst met : List ℕ) (wide start stop d : ℕ) → ℕ → Bool
 F endmasks endfirst met wide start stop d s = met_by (has_choice endmasks endfirst d) wide met s start (stop - start)
-
 
 abbrev pub invariant-loop-s : goal.invariant-loop-s
 invariant-loop-s l =

@@ -1,22 +1,18 @@
 -- The end states so far were walked over. Assumes nothing.
-use mathlib.Core.Path.{◌≡◌, refl, sym, ◌∙◌}
+use mathlib.Core.Path.{refl, sym, ◌∙◌}
 use mathlib.Core.Bool.{Bool, true}
-use Prim.Native.Nat.{ℕ, ◌+◌, ◌-◌, ◌≤◌}
+use Prim.Native.Nat.{ℕ, ◌+◌, ◌≤◌}
 use native.Mathlib.Omega.{arith}
-use lib.ListN.{length}
 use borrow.Author.Rules.{rules}
-use borrow.Author.Tests.{not-true, not-false}
-use Rattle.meeting.specs.declared.Level.{Level}
 use Rattle.meeting.specs.All.{if_met, met_by}
-use Rattle.meeting.proofs.NextLaws.{Turn, first-turn, next-turn, met_as, if_met_lem, before-first, up_to-next}
-use Rattle.stepping.specs.Step.{kids_in, RowReady, Stepped}
+use Rattle.meeting.proofs.NextLaws.{first-turn, next-turn, met_as, if_met_lem, before-first, up_to-next}
+use Rattle.stepping.specs.Step.{kids_in}
 use Rattle.stepping.proofs.Walks.{walk_true, walk_as, walk_all, walk_more, walk_stops, own-place, ready-again}
 use Rattle.stepping.proofs.step_state.Goals as goal
 
 pub next_met-e-requires : goal.next_met-e-requires
 next_met-e-requires c =
     λ e lo hi. own-place (c.requires.0.1.each e lo hi)
-
 
 pub loop-e-init : goal.loop-e-init
 unfolding met_by
@@ -29,11 +25,9 @@ loop-e-init c =
           (λ g. before-first (f g) c.args.wide c.args.met.now c.args.s c.args.start c.args.stop c.next_met-e.ensures),
     )
 
-
 pub step_kids-requires : goal.step_kids-requires
 step_kids-requires c =
     ((c.requires.0.0, ready-again c.loop-e.invariant.1 (c.requires.0.1.each c.loop-e.e (omega (arith, c.loop-e.invariant.0.after, c.loop-e-test.true)) c.loop-e-test.true)), c.requires.1, c.requires.2)
-
 
 pub returns-then-not-step_kids : goal.returns-then-not-step_kids
 unfolding met_by
@@ -46,17 +40,14 @@ returns-then-not-step_kids c =
     (λ g. sym (if_met_lem (f g) c.args.wide c.args.met.now c.args.s c.loop-e.e (c.loop-e.invariant.0.here c.loop-e-test.true))) (c.step_kids.ensures next (ready-again c.loop-e.invariant.1 r)) c.args.stop c.loop-e-test.true
     c.if-not-step_kids.true
 
-
 pub next_met-e-requires-in-loop-e : goal.next_met-e-requires-in-loop-e
 next_met-e-requires-in-loop-e c =
     λ e lo hi.
     own-place (ready-again (search rules) (c.requires.0.1.each e (omega (arith, c.loop-e.invariant.0.after, c.loop-e-test.true)) hi))
 
-
 pub loop-e-smaller : goal.loop-e-smaller
 loop-e-smaller c =
     omega (arith, c.next_met-e-in-loop-e.ensures.after, c.loop-e-test.true)
-
 
 pub loop-e-preserved : goal.loop-e-preserved
 unfolding met_by
@@ -78,11 +69,9 @@ loop-e-preserved c =
           (c.step_kids.ensures next (ready-again c.loop-e.invariant.1 (ready.each c.loop-e.e lo c.loop-e-test.true))) c.if-not-step_kids.false),
     )
 
-
 pub returns : goal.returns
 unfolding met_by
 returns c =
     λ next ready.
     walk_all (λ g. if_met (kids_in c.args.rows.now c.args.masks.now c.args.first.now c.args.endrows.now c.args.endmasks.now c.args.endfirst.now c.args.c c.args.d g) c.args.wide c.args.met.now c.args.s) c.args.wide c.args.met.now next c.args.start
     c.args.stop c.loop-e.e c.loop-e-test.false (omega (arith, c.loop-e.invariant.0.most)) (c.loop-e.invariant.2 next ready)
-

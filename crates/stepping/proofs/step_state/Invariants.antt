@@ -1,16 +1,12 @@
 -- The end states so far were walked over. Assumes nothing.
-use mathlib.Core.Path.{◌≡◌, refl, sym, ◌∙◌}
-use mathlib.Core.Bool.{Bool, true}
-use Prim.Native.Nat.{ℕ, ◌+◌, ◌-◌, ◌≤◌}
-use native.Mathlib.Omega.{arith}
+use mathlib.Core.Path.{◌≡◌}
+use mathlib.Core.Bool.{true}
+use Prim.Native.Nat.{◌-◌}
 use lib.ListN.{length}
-use borrow.Author.Rules.{rules}
-use borrow.Author.Tests.{not-true, not-false}
 use Rattle.meeting.specs.declared.Level.{Level}
-use Rattle.meeting.specs.All.{if_met, met_by}
-use Rattle.meeting.proofs.NextLaws.{Turn, first-turn, next-turn, met_as, if_met_lem, before-first, up_to-next}
+use Rattle.meeting.specs.All.{met_by}
+use Rattle.meeting.proofs.NextLaws.{Turn}
 use Rattle.stepping.specs.Step.{kids_in, RowReady, Stepped}
-use Rattle.stepping.proofs.Walks.{walk_true, walk_as, walk_all, walk_more, walk_stops, own-place, ready-again}
 use Rattle.stepping.proofs.step_state.Given as goal
 
 abbrev pub invariant-loop-e : goal.invariant-loop-e

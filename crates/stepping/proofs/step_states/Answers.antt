@@ -1,16 +1,11 @@
 -- The image states so far were walked over. Assumes nothing.
 -- image state s passes with each end state that it meets
-use mathlib.Core.Path.{◌≡◌, refl, sym, ap, ◌∙◌}
-use mathlib.Core.Bool.{Bool, true, false}
-use mathlib.Core.List.{List}
-use Prim.Native.Nat.{ℕ, ◌+◌, ◌-◌, ◌<◌, ◌≤◌, max}
+use mathlib.Core.Path.{refl}
+use mathlib.Core.Bool.{true, false}
 use native.Mathlib.Omega.{arith}
-use lib.ListN.{length}
 use borrow.Author.Rules.{rules}
-use borrow.Author.Tests.{not-true, not-false}
-use Rattle.meeting.specs.declared.Level.{Level}
-use Rattle.meeting.specs.All.{all_in, met_by, met_in}
-use Rattle.stepping.specs.Step.{kids_in, RowReady, Stepped}
+use Rattle.meeting.specs.All.{met_in}
+use Rattle.stepping.specs.Step.{kids_in}
 use Rattle.stepping.proofs.Walks.{walk_none, walk_all, walk_more, walk_stops, same_state, row-again, stage-row}
 use Rattle.stepping.proofs.step_states.Invariants.{F}
 use Rattle.stepping.proofs.step_states.Goals as goal
@@ -19,11 +14,9 @@ pub loop-s-init : goal.loop-s-init
 loop-s-init c =
     (omega arith, omega arith, refl, λ next ready. walk_none (F c.args.rows.now c.args.masks.now c.args.first.now c.args.endrows.now c.args.endmasks.now c.args.endfirst.now c.args.met.now c.args.wide c.args.c c.args.d c.args.level.start c.args.level.stop) c.args.wide c.args.met.now next c.args.level.from)
 
-
 pub step_state-requires : goal.step_state-requires
 step_state-requires c =
     ((c.requires.0.0, row-again c.loop-s.invariant.2 (stage-row c.requires.0.1 c.loop-s.s c.loop-s.invariant.0 c.loop-s-test.true)), c.requires.1, c.requires.2)
-
 
 pub returns-then-not-step_state : goal.returns-then-not-step_state
 unfolding met_in
@@ -35,25 +28,21 @@ returns-then-not-step_state c =
     (λ g. F c.args.rows.now c.args.masks.now c.args.first.now c.args.endrows.now c.args.endmasks.now c.args.endfirst.now c.loop-s.met c.args.wide c.args.c c.args.d c.args.level.start c.args.level.stop g c.loop-s.s)
     (same_state (kids_in c.args.rows.now c.args.masks.now c.args.first.now c.args.endrows.now c.args.endmasks.now c.args.endfirst.now c.args.c c.args.d) r w.kept) (c.step_state.ensures next (row-again c.loop-s.invariant.2 r)) c.args.level.to c.loop-s-test.true c.if-not-step_state.true
 
-
 pub loop-s-preserved : goal.loop-s-preserved
-loop-s-preserved c =
-    (
-      omega arith,
-      omega arith,
-      search rules,
-      λ next ready.
-          let r = ready c.loop-s.s c.loop-s.invariant.0 c.loop-s-test.true in
-          let w = c.loop-s.invariant.3 next ready in
-          walk_more (F c.args.rows.now c.args.masks.now c.args.first.now c.args.endrows.now c.args.endmasks.now c.args.endfirst.now c.args.met.now c.args.wide c.args.c c.args.d c.args.level.start c.args.level.stop) c.args.wide c.args.met.now next c.args.level.from c.loop-s.s c.loop-s.invariant.0 w
-          (λ g. F c.args.rows.now c.args.masks.now c.args.first.now c.args.endrows.now c.args.endmasks.now c.args.endfirst.now c.loop-s.met c.args.wide c.args.c c.args.d c.args.level.start c.args.level.stop g c.loop-s.s)
-          (same_state (kids_in c.args.rows.now c.args.masks.now c.args.first.now c.args.endrows.now c.args.endmasks.now c.args.endfirst.now c.args.c c.args.d) r w.kept) (c.step_state.ensures next (row-again c.loop-s.invariant.2 r)) c.if-not-step_state.false,
-    )
-
+loop-s-preserved c = (
+  omega arith,
+  omega arith,
+  search rules,
+  λ next ready.
+      let r = ready c.loop-s.s c.loop-s.invariant.0 c.loop-s-test.true in
+      let w = c.loop-s.invariant.3 next ready in
+      walk_more (F c.args.rows.now c.args.masks.now c.args.first.now c.args.endrows.now c.args.endmasks.now c.args.endfirst.now c.args.met.now c.args.wide c.args.c c.args.d c.args.level.start c.args.level.stop) c.args.wide c.args.met.now next c.args.level.from c.loop-s.s c.loop-s.invariant.0 w
+      (λ g. F c.args.rows.now c.args.masks.now c.args.first.now c.args.endrows.now c.args.endmasks.now c.args.endfirst.now c.loop-s.met c.args.wide c.args.c c.args.d c.args.level.start c.args.level.stop g c.loop-s.s)
+      (same_state (kids_in c.args.rows.now c.args.masks.now c.args.first.now c.args.endrows.now c.args.endmasks.now c.args.endfirst.now c.args.c c.args.d) r w.kept) (c.step_state.ensures next (row-again c.loop-s.invariant.2 r)) c.if-not-step_state.false,
+)
 
 pub returns : goal.returns
 unfolding met_in
 returns c =
     λ next stage.
     walk_all (F c.args.rows.now c.args.masks.now c.args.first.now c.args.endrows.now c.args.endmasks.now c.args.endfirst.now c.args.met.now c.args.wide c.args.c c.args.d c.args.level.start c.args.level.stop) c.args.wide c.args.met.now next c.args.level.from c.args.level.to c.loop-s.s c.loop-s-test.false c.loop-s.invariant.1 (c.loop-s.invariant.3 next (stage-row stage))
-

@@ -1,22 +1,17 @@
 -- The image states so far were walked over. Assumes nothing.
 -- image state s passes with each end state that it meets
-use mathlib.Core.Path.{◌≡◌, refl, sym, ap, ◌∙◌}
-use mathlib.Core.Bool.{Bool, true, false}
+use mathlib.Core.Path.{◌≡◌}
+use mathlib.Core.Bool.{Bool, true}
 use mathlib.Core.List.{List}
-use Prim.Native.Nat.{ℕ, ◌+◌, ◌-◌, ◌<◌, ◌≤◌, max}
-use native.Mathlib.Omega.{arith}
+use Prim.Native.Nat.{ℕ, ◌-◌, ◌<◌, ◌≤◌, max}
 use lib.ListN.{length}
-use borrow.Author.Rules.{rules}
-use borrow.Author.Tests.{not-true, not-false}
 use Rattle.meeting.specs.declared.Level.{Level}
-use Rattle.meeting.specs.All.{all_in, met_by, met_in}
+use Rattle.meeting.specs.All.{all_in, met_by}
 use Rattle.stepping.specs.Step.{kids_in, RowReady, Stepped}
-use Rattle.stepping.proofs.Walks.{walk_none, walk_all, walk_more, walk_stops, same_state, row-again, stage-row}
 use Rattle.stepping.proofs.step_states.Given as goal
 
 abbrev pub F : (rows masks first endrows endmasks endfirst met : List ℕ) (wide c d start stop : ℕ) → (ℕ → ℕ → Bool) → ℕ → Bool
 F rows masks first endrows endmasks endfirst met wide c d start stop g s = met_by (kids_in rows masks first endrows endmasks endfirst c d g) wide met s start (stop - start)
-
 
 abbrev pub invariant-loop-s : goal.invariant-loop-s
 invariant-loop-s l =

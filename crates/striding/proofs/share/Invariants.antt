@@ -1,9 +1,5 @@
 -- Fewer parts, until they fit. Assumes nothing.
 use Prim.Native.Nat.{◌<◌, ◌≤◌}
-use native.Mathlib.Nat.{mul-le-mul_right}
-use native.Mathlib.Omega.{arith}
-use borrow.Author.Rules.{rules}
-use Rattle.striding.proofs.Rooms.{factor_some, one_left}
 use Rattle.striding.proofs.share.Given as goal
 
 abbrev pub invariant-loop-r : goal.invariant-loop-r

@@ -1,12 +1,7 @@
 -- The sum so far is where the next level begins. Assumes nothing.
-use mathlib.Core.Path.{◌≡◌, refl, sym, ap, ◌∙◌}
-use Prim.Native.Nat.{ℕ, suc, ◌+◌, ◌-◌, ◌≤◌}
-use native.Mathlib.Numerals.{add-one}
-use native.Mathlib.Omega.{arith}
-use borrow.Author.Rules.{rules}
+use mathlib.Core.Path.{◌≡◌}
+use Prim.Native.Nat.{◌+◌, ◌-◌, ◌≤◌}
 use Rattle.matching.specs.Levels.{start_of}
-use Rattle.matching.proofs.LevelLaws.{start-zero, start-next}
-use Rattle.walking.proofs.Rooms.{start_up}
 use Rattle.striding.proofs.states.Given as goal
 
 abbrev pub invariant-loop-i : goal.invariant-loop-i

@@ -1,19 +1,11 @@
 -- The members of the roots left come to those of all roots. Assumes nothing.
-use mathlib.Core.Path.{◌≡◌, refl, ap, ◌∙◌}
-use Prim.Native.Nat.{ℕ, ◌+◌, ◌-◌}
-use native.Mathlib.Omega.{arith}
-use lib.ListN.{length, get_or}
-use borrow.Author.Rules.{rules}
+use mathlib.Core.Path.{◌≡◌}
+use Prim.Native.Nat.{◌-◌}
+use lib.ListN.{length}
 use Rattle.automata.specs.Members.{flat, up_to}
-use Rattle.matching.proofs.Grounds.{level-there}
-use Rattle.walking.specs.declared.Tally.{Tally}
-use Rattle.walking.specs.Tallied.{tallied, reply_of}
+use Rattle.walking.specs.Tallied.{tallied}
 use Rattle.walking.specs.Walk.{passes_in, root_of}
-use Rattle.walking.proofs.TallyLaws.{turn-begin, turn_on, turn_end}
-use Rattle.walking.proofs.Rooms.{roots_few}
-use Rattle.walking.proofs.Verdicts.{going}
 use Rattle.blocks.specs.Block.{Started}
-use Rattle.blocks.proofs.Starts.{started-again}
 use Rattle.striding.proofs.visit_roots.Given as goal
 
 abbrev pub invariant-loop-r : goal.invariant-loop-r

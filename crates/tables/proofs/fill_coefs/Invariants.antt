@@ -1,11 +1,8 @@
 -- Each leaf's coefficients are stored at its number, and the earlier rows stay. Assumes nothing.
-use mathlib.Core.Path.{◌≡◌, refl}
+use mathlib.Core.Path.{◌≡◌}
 use Prim.Native.Nat.{◌+◌, ◌-◌, ◌*◌, ◌≤◌}
-use native.Mathlib.Omega.{arith}
 use lib.ListN.{length}
-use borrow.Author.Rules.{rules}
 use Rattle.tables.specs.Unpack.{Leaved}
-use Rattle.tables.proofs.Fill.{leaved_more}
 use Rattle.tables.proofs.fill_coefs.Given as goal
 
 abbrev pub invariant-loop-i : goal.invariant-loop-i

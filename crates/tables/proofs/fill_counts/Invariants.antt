@@ -1,12 +1,8 @@
 -- Each level's count is stored at its number, and the earlier ones stay. Assumes nothing.
-use mathlib.Core.Path.{◌≡◌, refl, ap, ◌∙◌}
+use mathlib.Core.Path.{◌≡◌}
 use Prim.Native.Nat.{◌+◌, ◌-◌, ◌*◌, ◌≤◌}
-use native.Mathlib.Omega.{arith}
-use lib.ListN.{length, length-set}
-use borrow.Author.Rules.{rules}
-use Rattle.stored.specs.Form.{count_at}
+use lib.ListN.{length}
 use Rattle.tables.specs.Unpack.{Counted}
-use Rattle.tables.proofs.Fill.{stored_more}
 use Rattle.tables.proofs.fill_counts.Given as goal
 
 abbrev pub invariant-loop-i : goal.invariant-loop-i

@@ -1,15 +1,9 @@
 -- The pass stops for each state at the first row of a state that is not smaller: as many rows are of smaller states. Assumes nothing.
-use mathlib.Core.Path.{◌≡◌, refl, sym}
+use mathlib.Core.Path.{◌≡◌}
 use Prim.Native.Nat.{ℕ, ◌+◌, ◌-◌, ◌≤◌, ◌<◌}
-use native.Mathlib.Omega.{arith}
-use lib.ListN.{length, length-set}
-use borrow.Author.Rules.{rules}
-use borrow.Author.Count.{below_more}
-use Rattle.tables.specs.Table.{rows_below}
+use lib.ListN.{length}
 use Rattle.tables.specs.States.{state_row}
 use Rattle.tables.specs.Unpack.{Begun}
-use Rattle.tables.proofs.Fill.{stored_more}
-use Rattle.tables.proofs.Beginnings.{below-are, none-later}
 use Rattle.tables.proofs.fill_first.Given as goal
 
 abbrev pub invariant-loop-s : goal.invariant-loop-s

@@ -1,12 +1,8 @@
 -- Each record's row is stored at its number, and the earlier rows stay. Assumes nothing.
-use mathlib.Core.Path.{◌≡◌, refl, ap, ◌∙◌}
-use Prim.Native.Nat.{ℕ, ◌+◌, ◌-◌, ◌*◌, ◌≤◌}
-use native.Mathlib.Omega.{arith}
+use mathlib.Core.Path.{◌≡◌}
+use Prim.Native.Nat.{◌+◌, ◌-◌, ◌*◌, ◌≤◌}
 use lib.ListN.{length}
-use borrow.Author.Rules.{rules}
-use Rattle.records.specs.Read.{tr_of}
 use Rattle.tables.specs.Unpack.{row_read, Filled}
-use Rattle.tables.proofs.Fill.{one_more, within, filled_none, filled_more}
 use Rattle.tables.proofs.fill_rows.Given as goal
 
 abbrev pub invariant-loop-i : goal.invariant-loop-i

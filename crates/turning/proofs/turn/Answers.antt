@@ -1,7 +1,6 @@
 -- By the flag one table is read and the other written, so what one gate promises of old and new slices is what is asked of holder and other.
 -- Assumes nothing.
 -- ---- far places by name
-use mathlib.Core.Path.{refl}
 use Rattle.turning.proofs.turn.Goals as goal
 
 pub apply_gate-requires : goal.apply_gate-requires

@@ -1,5 +1,4 @@
 -- `wiping::wipe_marks` meets its contract. Assumes nothing.
-use borrow.Author.Rules.{rules}
 use Rattle.wiping.proofs.wipe_marks.Goals as goal
 
 pub returns : goal.returns

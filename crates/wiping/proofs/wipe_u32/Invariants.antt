@@ -1,8 +1,7 @@
 -- `wiping::wipe_u32` meets its contract. The loop's invariant: the cells passed are 0, and the others are as they were. Assumes nothing.
 use Prim.Native.Nat.{◌-◌}
 use lib.ListN.{length}
-use borrow.Author.Rules.{rules}
-use Rattle.wiping.proofs.Zeros.{Wiping, begin, next, all}
+use Rattle.wiping.proofs.Zeros.{Wiping}
 use Rattle.wiping.proofs.wipe_u32.Given as goal
 
 abbrev pub invariant-loop-i : goal.invariant-loop-i

@@ -1,8 +1,5 @@
 -- `wiping::wipe_u8` meets its contract. The loop's invariant: the cells passed are 0, and the others are as they were. Assumes nothing.
-use Prim.Native.Nat.{◌-◌}
-use lib.ListN.{length}
-use borrow.Author.Rules.{rules}
-use Rattle.wiping.proofs.Zeros.{Wiping, begin, next, all}
+use Rattle.wiping.proofs.Zeros.{begin, next, all}
 use Rattle.wiping.proofs.wipe_u8.Goals as goal
 
 pub loop-i-init : goal.loop-i-init

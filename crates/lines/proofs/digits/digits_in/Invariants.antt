@@ -1,8 +1,6 @@
 -- `lines::digits::digits_in` meets its contract. The loop's invariant: the digits counted and those of what is left are the number's, and
 -- one. Assumes nothing.
-use native.Mathlib.Omega.{arith}
-use borrow.Author.Rules.{rules}
-use Rattle.lines.proofs.Decimal.{Counting, count-begin, count_fits, count_next, count-all}
+use Rattle.lines.proofs.Decimal.{Counting}
 use Rattle.lines.proofs.digits.digits_in.Given as goal
 
 abbrev pub invariant-loop-left : goal.invariant-loop-left

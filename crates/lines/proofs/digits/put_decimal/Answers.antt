@@ -8,7 +8,6 @@ pub put_digits-requires : goal.put_digits-requires
 put_digits-requires c =
     (c.digits_in-count.ensures, omega (arith, c.digits_in-count.ensures, few32 c.args.n (search rules)))
 
-
 pub returns : goal.returns
 returns c =
     record {
@@ -16,4 +15,3 @@ returns c =
       few = omega (arith, c.digits_in-count.ensures, few32 c.args.n (search rules));
       front = c.put_digits.ensures;
     }
-

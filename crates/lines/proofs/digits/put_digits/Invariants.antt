@@ -1,8 +1,6 @@
 -- `lines::digits::put_digits` meets its contract. The loop's invariant: the digits of what is left, put at the front, come to the whole.
 -- Assumes nothing.
-use native.Mathlib.Omega.{arith}
-use borrow.Author.Rules.{rules}
-use Rattle.lines.proofs.Decimal.{Writing, write-begin, write-more, write-next, write-room, write-all}
+use Rattle.lines.proofs.Decimal.{Writing}
 use Rattle.lines.proofs.digits.put_digits.Given as goal
 
 abbrev pub invariant-loop-left : goal.invariant-loop-left

@@ -1,6 +1,5 @@
 -- `lines::input::lengths_fit` meets its contract: its tests are the definition's own. Assumes nothing.
 use mathlib.Core.Path.{refl}
-use borrow.Author.Rules.{rules}
 use Rattle.lines.specs.Divided.{lengths_fit}
 use Rattle.lines.proofs.input.lengths_fit.Goals as goal
 
@@ -8,4 +7,3 @@ pub returns : goal.returns
 unfolding lengths_fit
 returns c =
     refl
-

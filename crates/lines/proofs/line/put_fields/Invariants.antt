@@ -1,9 +1,7 @@
 -- `lines::line::put_fields` meets its contract. The loop's invariant: i fields are at the front, in at most four bytes each. Assumes nothing.
 use Prim.Native.Nat.{◌-◌}
-use native.Mathlib.Omega.{arith}
 use lib.ListN.{length}
-use borrow.Author.Rules.{rules}
-use Rattle.lines.proofs.Fields.{Listing, list_begin, list_next, list_all}
+use Rattle.lines.proofs.Fields.{Listing}
 use Rattle.lines.proofs.line.put_fields.Given as goal
 
 abbrev pub invariant-loop-i : goal.invariant-loop-i

@@ -1,9 +1,8 @@
 -- `lines::line::put_refused` meets its contract: the word, then two fields in the tail, then the third in the tail of that. Assumes nothing.
 use mathlib.Core.Path.{ap, ◌∙◌}
-use mathlib.Core.List.{List, [], ◌∷◌, ◌++◌, append_assoc}
+use mathlib.Core.List.{List, ◌∷◌, ◌++◌, append_assoc}
 use Prim.Native.Nat.{ℕ}
 use native.Mathlib.Omega.{arith}
-use borrow.Author.Rules.{rules}
 use Rattle.lines.specs.Numeral.{field, fields_of}
 use Rattle.lines.specs.Printed.{refused_name}
 use Rattle.lines.proofs.Putting.{put_whole, put_on, put_as}
@@ -16,4 +15,3 @@ returns c =
     let named = put_whole refused_name c.args.out.now c.put_bytes.ensures in
     let all = put_on (put_on named (omega arith) c.put_fields-at.ensures) (omega arith) c.put_field.ensures in
     put_as all (append_assoc refused_name (fields_of two) (field c.args.place) ∙ ap (λ (l : List ℕ). refused_name ++ l) (fields_snoc two c.args.place))
-

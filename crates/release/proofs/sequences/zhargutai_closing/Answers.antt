@@ -1,5 +1,4 @@
 -- `release::sequences::zhargutai_closing` meets its contract: the job's reply is what is put. Assumes nothing.
-use borrow.Author.Rules.{rules}
 use Rattle.release.proofs.Sequenced.{closing-number, closing_buffer}
 use Rattle.release.proofs.sequences.zhargutai_closing.Goals as goal
 

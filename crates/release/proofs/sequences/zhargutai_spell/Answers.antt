@@ -1,5 +1,4 @@
 -- `release::sequences::zhargutai_spell` meets its contract: with a short reply buffer nothing is called, else the job's reply is what is put. Assumes nothing.
-use borrow.Author.Rules.{rules}
 use Rattle.release.proofs.Sequenced.{short-number, short_output, short_buffer, spell_number, spell_output_lem, spell_buffer}
 use Rattle.release.proofs.sequences.zhargutai_spell.Goals as goal
 
