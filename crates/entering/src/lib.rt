@@ -2,6 +2,7 @@
 // went on from a block was found from its relations, the block is remembered with the number of its members; met again, all of them pass, and
 // they are counted in one step.
 #![tactic(auto)]
+
 ghost use Rattle.std.specs.Prelude.{◌≡◌, List, ◌∷◌, ℕ, ◌+◌, ◌<◌, length, get_or};
 ghost use Rattle.automata.specs.Choice.{choices_most};
 ghost use Rattle.matching.specs.Levels.{start_of};

@@ -1,7 +1,6 @@
 -- Only the root is reached on the first level, its relations are to end roots, and the walk goes on from there. Assumes nothing.
-use mathlib.Core.Path.{refl, ap, ◌∙◌}
+use mathlib.Core.Path.{ap, ◌∙◌}
 use native.Mathlib.Omega.{arith}
-use borrow.Author.Rules.{rules}
 use Rattle.matching.proofs.Grounds.{level-there}
 use Rattle.walking.specs.Tallied.{tallied}
 use Rattle.walking.specs.Walk.{passes_in}
@@ -14,69 +13,26 @@ pub bounds-counts-0 : goal.bounds-counts-0
 bounds-counts-0 c =
     level-there c.requires.0.both.image 0 (omega arith)
 
-
 pub bounds-endcounts-0 : goal.bounds-endcounts-0
 bounds-endcounts-0 c =
     level-there c.requires.0.both.ends 0 (omega arith)
-
 
 pub reach_none-requires : goal.reach_none-requires
 reach_none-requires c =
     roots-celled c.requires.0.both
 
-
 pub reach-requires : goal.reach-requires
 reach-requires c =
     omega (arith, roots-celled c.requires.0.both, c.requires.1, c.reach_none.auto.reached)
-
 
 pub begin_from-start-requires : goal.begin_from-start-requires
 begin_from-start-requires c =
     (begin_asked c.requires.0 c.args.root c.requires.1, c.requires.0.sized.planes, c.requires.0.sized.spare, omega arith)
 
-
 pub visit-r-requires : goal.visit-r-requires
 visit-r-requires c =
     entered-first c.requires.0 c.args.root c.requires.1 c.begin_from-start.ensures.few c.begin_from-start.ensures.sound c.begin_from-start.auto.stack (c.reach.auto.reached ∙ c.reach_none.auto.reached) c.begin_from-start.auto.scratch
 
-
-same_length : tie.Need-same-length
-same_length c = c.before.before.before.before.before.before.before.before.before.before.before.before.before.before.before.before.before.before.before.visit.auto.1.1.1.1.1.1.1.1.1.1.1.1.1.1.0
-
-
-same-length-2 : tie.Need-same-length-2
-same-length-2 c = c.before.before.before.before.before.before.before.before.before.before.before.before.before.before.before.before.before.before.before.visit.auto.1.1.1.1.1.1.1.1.1.1.1.1.1.1.1.0 ∙ c.before.before.before.before.before.before.before.before.before.before.before.before.before.before.before.before.before.before.before.before.before.before.before.before.before.before.before.before.before.before.before.before.before.begin-from.auto.1.1.1.1.1.0
-
-
-same-length-3 : tie.Need-same-length-3
-same-length-3 c = c.before.before.before.before.before.before.before.before.before.before.before.before.before.before.before.before.before.before.before.visit.auto.1.1.1.1.1.1.1.1.1.1.1.1.1.1.1.1.0 ∙ c.before.before.before.before.before.before.before.before.before.before.before.before.before.before.before.before.before.before.before.before.before.before.before.before.before.before.before.before.before.before.before.before.before.begin-from.auto.0
-
-
-same-length-4 : tie.Need-same-length-4
-same-length-4 c = c.before.before.before.before.before.before.before.before.before.before.before.before.before.before.before.before.before.before.before.visit.auto.1.1.1.1.1.1.1.1.1.1.1.1.1.1.1.1.1.0
-
-
-same-length-5 : tie.Need-same-length-5
-same-length-5 c = c.before.before.before.before.before.before.before.before.before.before.before.before.before.before.before.before.before.before.before.visit.auto.1.1.1.1.1.1.1.1.1.1.1.1.1.1.1.1.1.1.0
-
-
-same-length-6 : tie.Need-same-length-6
-same-length-6 c = c.before.before.before.before.before.before.before.before.before.before.before.before.before.before.before.before.before.before.before.visit.auto.1.1.1.1.1.1.1.1.1.1.1.1.1.1.1.1.1.1.1.0
-
-
-same-length-7 : tie.Need-same-length-7
-same-length-7 c = c.before.before.before.before.before.before.before.before.before.before.before.before.before.before.before.before.before.before.before.visit.auto.1.1.1.1.1.1.1.1.1.1.1.1.1.1.1.1.1.1.1.1.0
-
-
-same-length-8 : tie.Need-same-length-8
-same-length-8 c = c.before.before.before.before.before.before.before.before.before.before.before.before.before.before.before.before.before.before.before.visit.auto.1.1.1.1.1.1.1.1.1.1.1.1.1.1.1.1.1.1.1.1.1.0
-
-
-same-length-9 : tie.Need-same-length-9
-same-length-9 c = c.before.before.before.before.before.before.before.before.before.before.before.before.before.before.before.before.before.before.before.visit.auto.1.1.1.1.1.1.1.1.1.1.1.1.1.1.1.1.1.1.1.1.1.1.0 ∙ c.before.before.before.before.before.before.before.before.before.before.before.before.before.before.before.before.before.before.before.before.before.before.before.before.before.before.before.before.before.before.before.before.before.before.before.before.before.before.reach.auto.0 ∙ c.before.before.before.before.before.before.before.before.before.before.before.before.before.before.before.before.before.before.before.before.before.before.before.before.before.before.before.before.before.before.before.before.before.before.before.before.before.before.before.before.before.before.reach-none.auto.0
-
-
 pub returns : goal.returns
 returns c =
     (c.visit-r.ensures.0 ∙ ap (tallied (passes_in c.args.rows.now c.args.masks.now c.args.coefs.now c.args.first.now c.args.endrows.now c.args.endmasks.now c.args.endcoefs.now c.args.endcounts.now c.args.endfirst.now c.args.n) c.args.b c.args.t) (root_members c.args.rows.now c.args.masks.now c.args.coefs.now c.args.first.now c.args.n c.args.root _ _ _ _ c.requires.1 c.reach_none.ensures c.reach.ensures), c.visit-r.ensures.1.memory)
-

@@ -1,7 +1,7 @@
 -- No row of the image state so far fits. Assumes nothing.
 use mathlib.Core.Path.{sym, ◌∙◌}
 use mathlib.Core.Bool.{false≢true}
-use Prim.Native.Nat.{ℕ, ◌+◌}
+use Prim.Native.Nat.{ℕ}
 use native.Mathlib.Omega.{arith}
 use Rattle.foreseeing.specs.Foresee.{RowFits}
 use Rattle.foreseeing.proofs.Fits.{none_more}
@@ -18,10 +18,6 @@ returns c =
 pub row_could-requires : goal.row_could-requires
 row_could-requires c =
     record { leaves = λ z. c.requires.leaves z c.loop-i.i c.loop-i.invariant.0 c.loop-i-test.true; kids = λ z. c.requires.kids z c.loop-i.i c.loop-i.invariant.0 c.loop-i-test.true }
-
-pub overflow_add-i : goal.overflow_add-i
-overflow_add-i c =
-    omega (arith, c.loop-i-test.true, c.shared_slice_known-11-1.given (c.args.s + 1))
 
 pub loop-i-preserved : goal.loop-i-preserved
 loop-i-preserved c =

@@ -1,6 +1,6 @@
 -- What is left of the pass, from here, comes to the whole pass, which finds the first clash. Assumes nothing.
 use mathlib.Core.Path.{◌≡◌, refl, sym, ap, ◌∙◌}
-use mathlib.Core.List.{List}
+use mathlib.Core.List.{[], List}
 use Prim.Native.Nat.{ℕ, suc, ◌+◌, ◌-◌}
 use native.Mathlib.Omega.{arith}
 use Rattle.stored.specs.Fields.{records_from}

@@ -1,7 +1,7 @@
 -- A word that all states reached complete is a member's: it passes if it is found from the block, and else the search decides. Assumes nothing.
 use mathlib.Core.Path.{refl, sym, ◌∙◌}
 use mathlib.Core.Bool.{false≢true}
-use mathlib.Core.List.{◌∷◌}
+use mathlib.Core.List.{[], ◌∷◌}
 use Rattle.automata.specs.Members.{member}
 use Rattle.walking.specs.Walk.{passes_in}
 use Rattle.walking.proofs.TallyLaws.{tally_one}

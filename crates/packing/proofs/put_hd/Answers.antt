@@ -1,6 +1,6 @@
 -- `packing::put_hd` meets its contract: the first six bytes, then three counts, each in the tail that the one before it left. Assumes nothing.
 use mathlib.Core.Path.{refl}
-use mathlib.Core.List.{List, ◌∷◌, ◌++◌}
+use mathlib.Core.List.{[], List, ◌∷◌, ◌++◌}
 use Prim.Native.Nat.{ℕ}
 use native.Mathlib.Omega.{arith}
 use Rattle.stored.specs.Fields.{bytes16}

@@ -1,5 +1,5 @@
 -- `packing::put_version` meets its contract: its six stores are a run of six bytes from cell 0 on. Assumes nothing.
-use mathlib.Core.List.{◌∷◌}
+use mathlib.Core.List.{[], ◌∷◌}
 use native.Mathlib.Omega.{arith}
 use lib.ListN.{length-set}
 use Rattle.putting.proofs.Front.{stored}

@@ -1,6 +1,6 @@
 -- `recording::put_lv` meets its contract: the mark, then the count in the tail. Assumes nothing.
 use mathlib.Core.Path.{refl}
-use mathlib.Core.List.{◌∷◌}
+use mathlib.Core.List.{[], ◌∷◌}
 use native.Mathlib.Omega.{arith}
 use Rattle.stored.specs.Fields.{bytes16}
 use Rattle.putting.proofs.Front.{lent_on}

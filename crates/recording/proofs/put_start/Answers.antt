@@ -1,6 +1,6 @@
 -- `recording::put_start` meets its contract: the mark, then the state in the tail, then the mask in the tail of that. Assumes nothing.
 use mathlib.Core.Path.{refl}
-use mathlib.Core.List.{◌∷◌, ◌++◌}
+use mathlib.Core.List.{[], ◌∷◌, ◌++◌}
 use native.Mathlib.Omega.{arith}
 use Rattle.stored.specs.Fields.{bytes16, bytes32}
 use Rattle.putting.proofs.Front.{lent_on}

@@ -1,5 +1,5 @@
 -- `replies::put_kind` meets its contract: its four stores are a run of four bytes from cell 0 on. Assumes nothing.
-use mathlib.Core.List.{◌∷◌}
+use mathlib.Core.List.{[], ◌∷◌}
 use native.Mathlib.Omega.{arith}
 use lib.ListN.{length-set}
 use Rattle.packing.proofs.Front.{stored}

@@ -1,5 +1,5 @@
 -- `lines::line::put_count` meets its contract: the word, then the count's field in the tail. Assumes nothing.
-use mathlib.Core.List.{◌++◌, List}
+use mathlib.Core.List.{[], ◌++◌, List}
 use mathlib.Core.Path.{ap}
 use Prim.Native.Nat.{ℕ}
 use native.Mathlib.Omega.{arith}

@@ -1,6 +1,6 @@
 -- `lines::line::put_refused` meets its contract: the word, then two fields in the tail, then the third in the tail of that. Assumes nothing.
 use mathlib.Core.Path.{ap, ◌∙◌}
-use mathlib.Core.List.{List, ◌∷◌, ◌++◌, append_assoc}
+use mathlib.Core.List.{[], List, ◌∷◌, ◌++◌, append_assoc}
 use Prim.Native.Nat.{ℕ}
 use native.Mathlib.Omega.{arith}
 use Rattle.lines.specs.Numeral.{field, fields_of}

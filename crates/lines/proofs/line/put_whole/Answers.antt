@@ -1,5 +1,5 @@
 -- `lines::line::put_whole` meets its contract: the words, then the line's end in the tail. Assumes nothing.
-use mathlib.Core.List.{◌∷◌}
+use mathlib.Core.List.{[], ◌∷◌}
 use native.Mathlib.Omega.{arith}
 use Rattle.lines.specs.Printed.{line_of}
 use Rattle.lines.proofs.Putting.{put_whole, put_on}
