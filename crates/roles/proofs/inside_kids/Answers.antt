@@ -8,5 +8,5 @@ returns-in-Within c =
 
 pub returns-in_default : goal.returns-in_default
 returns-in_default c =
-    rw (inside-rest c.args.o (c.args.l, c.args.r) c.in_default.in_default-own.keys2)
+    rw (inside-rest c.args.o (c.args.l, c.args.r) c.in_default.not-Within)
     (same-kids c.pack.ensures c.pack-in_default.ensures)

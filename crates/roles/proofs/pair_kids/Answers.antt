@@ -8,4 +8,4 @@ returns-in-Cross c =
 
 pub returns-in_default : goal.returns-in_default
 returns-in_default c =
-    rw (pair-rest c.args.o _ _ _ c.in_default.in_default-own.keys2) c.both_kids.ensures
+    rw (pair-rest c.args.o _ _ _ c.in_default.not-Cross) c.both_kids.ensures

@@ -12,5 +12,5 @@ returns-in-Begin c =
 
 pub returns-in_default : goal.returns-in_default
 returns-in_default c =
-    rw (plain-rest c.args.o (c.args.l, c.args.r) c.in_default.in_default-own.keys3)
+    rw (plain-rest c.args.o (c.args.l, c.args.r) c.in_default.not-Act c.in_default.not-Begin)
     (same-kids c.pack-in_default.ensures c.pack-in_default-2.ensures)

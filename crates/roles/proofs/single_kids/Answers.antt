@@ -12,4 +12,4 @@ returns-then-tag-eq-INSIDE c =
 
 pub returns : goal.returns
 returns c =
-    simp (ne_eqb _ 0 c.if-tag-eq-PLAIN.false, ne_eqb _ 1 c.if-tag-eq-INSIDE.false, ← c.Shift-of.ensures) c.shifted_kids.ensures
+    simp (ne_eqb _ 0 c.if-tag-eq-PLAIN.false, ne_eqb _ 1 c.if-tag-eq-INSIDE.false, ← c.shift_of.ensures) c.shifted_kids.ensures
