@@ -1,4 +1,4 @@
-# libzhargutai for C: the archive and the shared library, the header, a man page and zhargutai.pc, built from what `rt staticlib release` proves.
+# libzhargutai for C: the archive and the shared library, the header, a man page and zhargutai.pc, built from what `tools/build library` proves.
 #
 #   make                              builds in target/c
 #   make install PREFIX=/usr/local    installs; DESTDIR is put before every path
@@ -15,7 +15,7 @@ SHARED := libzhargutai.so.$(VERSION)
 all: $(OUT)/libzhargutai.a $(OUT)/libzhargutai.so $(OUT)/zhargutai.pc $(OUT)/release
 
 target/staticlib/librelease.a:
-	rt staticlib release
+	tools/build library
 
 $(OUT)/libzhargutai.a: $(ARCHIVE)
 	mkdir -p $(OUT)

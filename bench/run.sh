@@ -7,9 +7,7 @@ export PYTHONDONTWRITEBYTECODE=1
 archive=${1:-}
 if [ -z "$archive" ]; then
   archive=target/staticlib/librelease.a
-  rm -f "$archive"
-  rt staticlib release
-  rt check zhargutai
+  tools/build library program
 fi
 program=${2:-target/bin/zhargutai}
 ARCHIVE=$(realpath "$archive") cargo build --release --quiet --offline --manifest-path bench/Cargo.toml --target-dir target/bench

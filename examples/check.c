@@ -1,6 +1,6 @@
 /* Checks that H on qubit 1 and then CX take the four basis states of two qubits to the four Bell states, and prints the verdict.
  *
- * Build, after `rt staticlib release`:
+ * Build, after `tools/build library`:
  *   gcc -Iinclude examples/check.c target/staticlib/librelease.a -o check
  */
 #include "zhargutai.h"

@@ -1,6 +1,6 @@
 /* Closes a short sequence of Clifford elements, and prints each element and the closing one, spelled in H and S.
  *
- * Build, after `rt staticlib release`:
+ * Build, after `tools/build library`:
  *   gcc -Iinclude examples/closing.c target/staticlib/librelease.a -o closing
  */
 #include "zhargutai.h"

@@ -1,6 +1,6 @@
 /* Applies H to the set Z1, whose one state is |0>, and prints the leaves of the new set.
  *
- * Build, after `rt staticlib release`:
+ * Build, after `tools/build library`:
  *   gcc -Iinclude examples/one_gate.c target/staticlib/librelease.a -o one_gate
  */
 #include "zhargutai.h"

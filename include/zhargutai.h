@@ -1,6 +1,6 @@
 /* The C interface of the checker: what a caller lends, what comes back, and in which bytes.
  *
- * Link libzhargutai (`make install`, then `pkg-config --cflags --libs zhargutai`), or the archive that `rt staticlib release`
+ * Link libzhargutai (`make install`, then `pkg-config --cflags --libs zhargutai`), or the archive that `tools/build library`
  * writes, target/staticlib/librelease.a (x86-64 Linux).
  *
  * Calls are reentrant: the library has no global data, takes no memory from the heap and keeps nothing from one call to the

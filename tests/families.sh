@@ -8,7 +8,7 @@ program=${1:-}
 shift || true
 if [ -z "$program" ]; then
   program=target/bin/zhargutai
-  rt check zhargutai
+  tools/build program
 fi
 [ $# -gt 0 ] || set -- 8 20
 out=$(mktemp -d)

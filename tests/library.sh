@@ -7,8 +7,7 @@ export PYTHONDONTWRITEBYTECODE=1
 archive=${1:-${ARCHIVE:-}}
 if [ -z "$archive" ]; then
   archive=target/staticlib/librelease.a
-  rm -f "$archive"
-  rt staticlib release
+  tools/build library
 fi
 out=$(mktemp -d)
 trap 'rm -rf "$out"' EXIT

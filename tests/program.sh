@@ -7,7 +7,7 @@ export PYTHONDONTWRITEBYTECODE=1
 program=${1:-}
 if [ -z "$program" ]; then
   program=target/bin/zhargutai
-  rt check zhargutai
+  tools/build program
 fi
 out=$(mktemp)
 trap 'rm -f "$out"' EXIT

@@ -7,7 +7,7 @@ export PYTHONDONTWRITEBYTECODE=1
 program=${1:-}
 if [ -z "$program" ]; then
   program=target/bin/zhargutai
-  rt check zhargutai
+  tools/build program
 fi
 python3 tests/tools/roundtrip.py
 python3 tests/tools/damaged.py

@@ -21,13 +21,13 @@ ELSEWHERE = {"bash .ci/run": "it is what runs this", "bash bench/run.sh": "it me
 # commands within sentences, and the test that runs each
 INLINE = re.compile(r"`((?:tools/|bash |python3 |make\b|rt |cargo |target/bin/|zt |timeout |ulimit )[^`]*)`")
 BY_TEST = {
-    "rt check zhargutai": "README.md", "rt check NAME": "README.md", "rt dev NAME": "the gate proves every crate", "rt dev gates": "the gate", "rt must-fail NAME": ".ci/run", "rt version": "figures",
-    "rt doc": "the kit", "rt staticlib NAME": ".ci/run", "rt staticlib release": ".ci/run", "bash .ci/run": ".ci/run", "make": "README.md", "make install": "tests/library.sh", "cargo test": "tests/library.sh",
+    "tools/build": ".ci/run", "tools/build library": ".ci/run", "tools/build program": "README.md", "tools/build library program": ".ci/run",
+    "rt check": "the gate proves every crate", "rt ci": ".ci/run", "rt ci NAME": "the gate proves every crate", "rt must-fail NAME": ".ci/run", "rt version": "figures", "rt doc": "the kit", "bash .ci/run": ".ci/run", "make": "README.md", "make install": "tests/library.sh", "cargo test": "tests/library.sh",
     "bash tests/NAME.sh": ".ci/run", "bash tests/zt.sh target/bin/zhargutai": ".ci/run", "bash tests/documents.sh": ".ci/run", "python3 tests/tools/documents.py --write": "a person",
-    "bash bench/run.sh ARCHIVE PROGRAM": "a person", "ulimit -s 400": "tests/tools/calls.py", "tools/limits": "LIMITS.md", "tools/zt": "zt.sh", "target/bin/zhargutai": "zt.sh",
+    "bash bench/run.sh ARCHIVE PROGRAM": "a person", "tools/respell.py": "a person", "ulimit -s 400": "tests/tools/calls.py", "tools/limits": "LIMITS.md", "tools/zt": "zt.sh", "target/bin/zhargutai": "zt.sh",
 }
 ZT_INLINE = re.compile(r"(?:tools/)?zt (pack|show|job|check|explain|report|lint|states|sizes|draw|batch)\b")
-NEEDS_TARGET = re.compile(r"rt check|make|target/|^tools/(?!zt (explain|report) \S+ --expected)")
+NEEDS_TARGET = re.compile(r"make|target/|^tools/(?!zt (explain|report) \S+ --expected)")
 # what a clone lacks; docs/RULES.md says what "document 01" and "document 02" mean
 FORBIDDEN = re.compile(r"\.\./shared|/work/|[Ss]ource 00[0-9]|://")
 LINK = re.compile(r"\[[^\]]*\]\(([^)\s]+)\)")

@@ -24,7 +24,7 @@ def find(given=None):
     for path in (asked,) if asked else (str(ROOT / BUILT), shutil.which("zhargutai")):
         if path and os.access(path, os.X_OK) and not os.path.isdir(path):
             return path
-    raise Unread("there is no program to ask: build it by `rt check zhargutai` (README.md says how long that takes), or name it by --program" if not asked
+    raise Unread("there is no program to ask: build it by `tools/build program` (README.md says how long that takes), or name it by --program" if not asked
                  else "is no program that can be run", name=asked or None)
 
 

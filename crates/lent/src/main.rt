@@ -2,12 +2,13 @@
 // kind and number, and for each buffer how many cells from the front are zero and how many after them are as they were: document 01, "After
 // refusal 17 they are unchanged. After any other reply their named size is zero, further bytes unchanged."
 #![tactic(auto)]
+
 ghost use Rattle.std.specs.Prelude.{◌≤◌, length};
 
 use buffers::{HINTS, MARKS};
 use checkjob::check;
-use libc::STDOUT_FILENO;
 use replies::Reply;
+use std::io;
 use terms::Terms;
 
 // Three cells more than each named size.
@@ -34,23 +35,14 @@ struct Sizes {
     hints: usize,
 }
 
-fn put(c: u8) {
-    let one = [c];
-    io::write_all(STDOUT_FILENO, &one);
-}
-
-fn digit(n: usize) -> u8 {
-    48 + (n % 10) as u8
+// A number's last digit.
+fn put_digit(rt: &impl Print, n: u8) -> io::Result<()> {
+    print!(rt; "{}", n % 10)
 }
 
 // A space and the last five digits of a number.
-fn put_number(n: usize) {
-    put(32);
-    put(digit(n / 10000));
-    put(digit(n / 1000));
-    put(digit(n / 100));
-    put(digit(n / 10));
-    put(digit(n));
+fn put_number(rt: &impl Print, n: usize) -> io::Result<()> {
+    print!(rt; " {:05}", n % 100000)
 }
 
 // How many cells from the front have this value.
@@ -81,16 +73,16 @@ fn front_u8(buf: &[u8], value: u8) -> usize
 }
 
 // Zero cells, and then cells as they were.
-fn tell_u32(buf: &[u32]) {
+fn tell_u32(rt: &impl Print, buf: &[u32]) -> io::Result<()> {
     let zeros = front_u32(buf, 0);
-    put_number(zeros);
-    put_number(front_u32(&buf[zeros..], 7));
+    put_number(rt, zeros)?;
+    put_number(rt, front_u32(&buf[zeros..], 7))
 }
 
-fn tell_u8(buf: &[u8]) {
+fn tell_u8(rt: &impl Print, buf: &[u8]) -> io::Result<()> {
     let zeros = front_u8(buf, 0);
-    put_number(zeros);
-    put_number(front_u8(&buf[zeros..], 7));
+    put_number(rt, zeros)?;
+    put_number(rt, front_u8(&buf[zeros..], 7))
 }
 
 // One check of a start set, a circuit and an end set, with so many cells lent of each buffer.
@@ -123,7 +115,7 @@ fn lend(
 }
 
 // The same in buffers that hold sevens, and what it left there.
-fn run(start: &[u8], circuit: &[u8], end: &[u8], sizes: Sizes)
+fn run(rt: &impl Print, start: &[u8], circuit: &[u8], end: &[u8], sizes: Sizes) -> io::Result<()>
     requires { (sizes.met ≤ 16387) × (sizes.stack ≤ 16387) × (sizes.kept ≤ 16387) × (sizes.hints ≤ 32771) }
 {
     let mut met = [7u32; MORE_MARKS];
@@ -133,59 +125,77 @@ fn run(start: &[u8], circuit: &[u8], end: &[u8], sizes: Sizes)
     let reply = lend(
         start, circuit, end, sizes, &mut met, &mut stack, &mut kept, &mut hints,
     );
-    put(digit(reply.kind as usize));
-    put_number(reply.number as usize);
-    tell_u32(&met);
-    tell_u32(&stack);
-    tell_u32(&kept);
-    tell_u8(&hints);
-    put(10);
+    put_digit(rt, reply.kind)?;
+    put_number(rt, reply.number as usize)?;
+    tell_u32(rt, &met)?;
+    tell_u32(rt, &stack)?;
+    tell_u32(rt, &kept)?;
+    tell_u8(rt, &hints)?;
+    println!(rt)
 }
 
 // A check that fails, one that holds, and one that is refused, in buffers of so many cells.
-fn all_replies(sizes: Sizes)
+fn all_replies(rt: &impl Print, sizes: Sizes) -> io::Result<()>
     requires { (sizes.met ≤ 16387) × (sizes.stack ≤ 16387) × (sizes.kept ≤ 16387) × (sizes.hints ≤ 32771) }
 {
-    run(&SET, &FLIP, &SET, sizes);
-    run(&SET, &[], &SET, sizes);
-    run(&SET, &FLIP, &FLIP, sizes);
+    run(rt, &SET, &FLIP, &SET, sizes)?;
+    run(rt, &SET, &[], &SET, sizes)?;
+    run(rt, &SET, &FLIP, &FLIP, sizes)
 }
 
-fn main() {
-    all_replies(Sizes {
-        met: MARKS - 1,
-        stack: MARKS,
-        kept: MARKS,
-        hints: HINTS,
-    });
-    all_replies(Sizes {
-        met: MARKS,
-        stack: MARKS - 1,
-        kept: MARKS,
-        hints: HINTS,
-    });
-    all_replies(Sizes {
-        met: MARKS,
-        stack: MARKS,
-        kept: MARKS - 1,
-        hints: HINTS,
-    });
-    all_replies(Sizes {
-        met: MARKS,
-        stack: MARKS,
-        kept: MARKS,
-        hints: HINTS - 1,
-    });
-    all_replies(Sizes {
-        met: MARKS,
-        stack: MARKS,
-        kept: MARKS,
-        hints: HINTS,
-    });
-    all_replies(Sizes {
-        met: MORE_MARKS,
-        stack: MORE_MARKS,
-        kept: MORE_MARKS,
-        hints: MORE_HINTS,
-    });
+fn main(rt: HostRuntime) -> io::Result<()> {
+    all_replies(
+        &rt,
+        Sizes {
+            met: MARKS - 1,
+            stack: MARKS,
+            kept: MARKS,
+            hints: HINTS,
+        },
+    )?;
+    all_replies(
+        &rt,
+        Sizes {
+            met: MARKS,
+            stack: MARKS - 1,
+            kept: MARKS,
+            hints: HINTS,
+        },
+    )?;
+    all_replies(
+        &rt,
+        Sizes {
+            met: MARKS,
+            stack: MARKS,
+            kept: MARKS - 1,
+            hints: HINTS,
+        },
+    )?;
+    all_replies(
+        &rt,
+        Sizes {
+            met: MARKS,
+            stack: MARKS,
+            kept: MARKS,
+            hints: HINTS - 1,
+        },
+    )?;
+    all_replies(
+        &rt,
+        Sizes {
+            met: MARKS,
+            stack: MARKS,
+            kept: MARKS,
+            hints: HINTS,
+        },
+    )?;
+    all_replies(
+        &rt,
+        Sizes {
+            met: MORE_MARKS,
+            stack: MORE_MARKS,
+            kept: MORE_MARKS,
+            hints: MORE_HINTS,
+        },
+    )
 }

@@ -1,9 +1,16 @@
 // Reads each set file that its arguments name, cut at every byte, and then with each single bit of it flipped, and prints for each the refusal's
-// number and place as number@place, 0@0 for a set that is taken. One line for the cuts, then one for each of a byte's eight bits.
+// number and place as number@place, 0@0 for a set that is taken. One line for the cuts, then one for each of a byte's eight bits. A read or a
+// write that fails ends the program with that error.
 #![tactic(auto)]
-use libc::STDOUT_FILENO;
+
 use refusals::Refusal;
 use setfile::{Bounds, SetAnswer};
+use std::io::Read;
+use std::rt::Files;
+use std::{env, fs, io};
+
+// The most bytes of a file that are read.
+const MOST_READ: u64 = 4096;
 
 // The refusal of a set file; its number is 0 where it is taken.
 fn judged(file: &[u8]) -> Refusal {
@@ -22,35 +29,27 @@ fn judged(file: &[u8]) -> Refusal {
     }
 }
 
-fn put(c: u8) {
-    let one = [c];
-    io::write_all(STDOUT_FILENO, &one);
+fn show(rt: &impl Print, r: Refusal) -> io::Result<()> {
+    let number = r.number;
+    let place = r.place;
+    print!(rt; "{number}@{place}")
 }
 
-fn show(r: Refusal) {
-    io::print_decimal(STDOUT_FILENO, r.number as u64);
-    put(64);
-    io::print_decimal(STDOUT_FILENO, r.place as u64);
-}
-
-// What is said of the first n bytes, after a space if it is not the first of its line.
-fn show_front(i: usize, bytes: [u8; 4096], n: usize) {
+// What is said of these bytes, after a space if they are not the first of their line.
+fn show_front(rt: &impl Print, i: usize, front: &[u8]) -> io::Result<()> {
     if i != 0 {
-        put(32);
+        print!(rt; " ")?;
     }
-    if n <= 4096 {
-        let front = io::count(n as isize, &bytes);
-        show(judged(&bytes[..front]));
-    }
+    show(rt, judged(front))
 }
 
-// Every cut of the first n bytes.
-fn cuts(bytes: [u8; 4096], n: usize) {
-    for i in 0..n {
-        show_front(i, bytes, i);
+// Every cut of the bytes.
+fn cuts(rt: &impl Print, bytes: &[u8]) -> io::Result<()> {
+    for i in 0..bytes.len() {
+        show_front(rt, i, &bytes[..i])?;
     }
-    show_front(n, bytes, n);
-    put(10);
+    show_front(rt, bytes.len(), bytes)?;
+    println!(rt)
 }
 
 // A byte with one bit changed.
@@ -61,52 +60,45 @@ fn with_bit(x: u8, bit: u8) -> u8 {
     x
 }
 
-// The first n bytes with one bit of byte i changed.
-fn flipped(bytes: [u8; 4096], n: usize, i: usize, bit: u8) {
-    let mut changed = bytes;
-    if i < 4096 {
-        changed[i] = with_bit(bytes[i], bit);
+// The bytes with one bit of byte i changed.
+fn flipped(rt: &(impl Print + AllocGlobal), bytes: &[u8], i: usize, bit: u8) -> io::Result<()> {
+    let mut changed = bytes.to_vec(rt.alloc())?;
+    if i < changed.len() {
+        changed[i] = with_bit(changed[i], bit);
     }
-    show_front(i, changed, n);
+    show_front(rt, i, changed.as_slice())
 }
 
-fn flips(bytes: [u8; 4096], n: usize, bit: u8) {
-    for i in 0..n {
-        flipped(bytes, n, i, bit);
+fn flips(rt: &(impl Print + AllocGlobal), bytes: &[u8], bit: u8) -> io::Result<()> {
+    for i in 0..bytes.len() {
+        flipped(rt, bytes, i, bit)?;
     }
-    put(10);
+    println!(rt)
 }
 
-fn all_flips(bytes: [u8; 4096], n: usize) {
+fn all_flips(rt: &(impl Print + AllocGlobal), bytes: &[u8]) -> io::Result<()> {
     for bit in 0..8 {
-        flips(bytes, n, bit);
+        flips(rt, bytes, bit)?;
     }
+    Ok(())
 }
 
-fn run(name: &[u8]) {
-    let fd = os::open_read(name);
-    if fd < 0 {
-        os::fail(name);
-        return;
-    }
-    let mut bytes = io::buffer();
-    let n = io::read_full(fd, &mut bytes);
-    libc::close(fd);
-    io::write_all(STDOUT_FILENO, name);
-    put(10);
-    cuts(bytes, n);
-    all_flips(bytes, n);
+// The file of this name. One that cannot be opened is named on standard error, and passed over.
+fn run(rt: &(impl Files + Print + Eprint + AllocGlobal), name: &str) -> io::Result<()> {
+    let file = match fs::open(rt, name) {
+        Ok(file) => file,
+        Err(error) => return eprintln!(rt; "{name}: {error}"),
+    };
+    let mut bytes = Vec::new(rt.alloc());
+    file.take(MOST_READ).read_to_end(&mut bytes)?;
+    println!(rt; "{name}")?;
+    cuts(rt, bytes.as_slice())?;
+    all_flips(rt, bytes.as_slice())
 }
 
-// The file that argument i names.
-fn one(i: usize) {
-    let mut name = io::buffer();
-    let n = os::arg(i, &mut name);
-    run(&name[..n]);
-}
-
-fn main() {
-    for i in 1..os::arg_count() {
-        one(i);
+fn main(rt: HostRuntime) -> io::Result<()> {
+    for name in env::args(&rt)?.skip(1) {
+        run(&rt, name.as_str())?;
     }
+    Ok(())
 }

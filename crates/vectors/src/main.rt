@@ -1,59 +1,64 @@
 // Reads each file that its arguments name and prints what reading answers: a set's header, a circuit's number of gates, or the refusal.
 // A name says how a file is read: set-.. as a start set, end-.. as an end set, gates-N-.. as a circuit and one-N-.. as the one-gate job's
-// circuit, both held to N qubits.
+// circuit, both held to N qubits. A read or a write that fails ends the program with that error.
 #![tactic(auto)]
+
 use circuitfile::CircuitAnswer;
-use libc::STDOUT_FILENO;
 use refusals::Refusal;
 use setfile::{Bounds, Form, SetAnswer};
+use std::io::Read;
+use std::rt::Files;
+use std::{env, fs, io};
+
+// The most bytes of a file that are read.
+const MOST_READ: u64 = 65536;
 
 // A space and a number.
-fn field(n: u64) {
-    io::write_all(STDOUT_FILENO, b" ");
-    io::print_decimal(STDOUT_FILENO, n);
+fn field(rt: &impl Print, n: u64) -> io::Result<()> {
+    print!(rt; " {n}")
 }
 
-fn print_refusal(r: Refusal) {
-    io::write_all(STDOUT_FILENO, b"refused");
-    field(r.number as u64);
-    field(r.source as u64);
-    field(r.place as u64);
+fn print_refusal(rt: &impl Print, r: Refusal) -> io::Result<()> {
+    print!(rt; "refused")?;
+    field(rt, r.number as u64)?;
+    field(rt, r.source as u64)?;
+    field(rt, r.place as u64)
 }
 
-fn print_form(f: Form) {
-    io::write_all(STDOUT_FILENO, b"set");
-    field(f.n as u64);
-    field(f.k as u64);
-    field(f.states as u64);
-    field(f.inner as u64);
-    field(f.leaves as u64);
+fn print_form(rt: &impl Print, f: Form) -> io::Result<()> {
+    print!(rt; "set")?;
+    field(rt, f.n as u64)?;
+    field(rt, f.k as u64)?;
+    field(rt, f.states as u64)?;
+    field(rt, f.inner as u64)?;
+    field(rt, f.leaves as u64)
 }
 
-fn print_set(answer: SetAnswer) {
+fn print_set(rt: &impl Print, answer: SetAnswer) -> io::Result<()> {
     match answer {
-        SetAnswer::Good(f) => print_form(f),
-        SetAnswer::Bad(r) => print_refusal(r),
+        SetAnswer::Good(f) => print_form(rt, f),
+        SetAnswer::Bad(r) => print_refusal(rt, r),
     }
 }
 
-fn print_circuit(answer: CircuitAnswer) {
+fn print_circuit(rt: &impl Print, answer: CircuitAnswer) -> io::Result<()> {
     match answer {
         CircuitAnswer::Good(count) => {
-            io::write_all(STDOUT_FILENO, b"gates");
-            field(count as u64);
+            print!(rt; "gates")?;
+            field(rt, count as u64)
         }
-        CircuitAnswer::Bad(r) => print_refusal(r),
+        CircuitAnswer::Bad(r) => print_refusal(rt, r),
     }
 }
 
 // A set file, held to the bound of states given.
-fn read_as_set(file: &[u8], states: u16, source: u8) {
+fn read_as_set(rt: &impl Print, file: &[u8], states: u16, source: u8) -> io::Result<()> {
     let bounds = Bounds {
         states,
         inner: 2048,
         leaves: 1024,
     };
-    print_set(setfile::read_set(file, bounds, source));
+    print_set(rt, setfile::read_set(file, bounds, source))
 }
 
 // The digit at a place of a name, as a number of qubits; 0 where there is none.
@@ -69,44 +74,36 @@ fn qubits(name: &[u8], at: usize) -> u8 {
 }
 
 // A file by the first letter of its name: s, e, g or o.
-fn answer(name: &[u8], file: &[u8]) {
+fn answer(rt: &impl Print, name: &[u8], file: &[u8]) -> io::Result<()> {
     if name.len() == 0 {
-        return;
+        return Ok(());
     }
     let kind = name[0];
     match kind {
-        115 => read_as_set(file, 1024, 1),
-        101 => read_as_set(file, 128, 3),
-        103 => print_circuit(circuitfile::read_circuit(file, qubits(name, 6))),
-        111 => print_circuit(circuitfile::read_one(file, qubits(name, 4))),
-        _ => {}
+        115 => read_as_set(rt, file, 1024, 1),
+        101 => read_as_set(rt, file, 128, 3),
+        103 => print_circuit(rt, circuitfile::read_circuit(file, qubits(name, 6))),
+        111 => print_circuit(rt, circuitfile::read_one(file, qubits(name, 4))),
+        _ => Ok(()),
     }
 }
 
-fn run(name: &[u8]) {
-    let fd = os::open_read(name);
-    if fd < 0 {
-        os::fail(name);
-        return;
-    }
-    let mut buf = io::large_buffer();
-    let n = io::read_full(fd, &mut buf);
-    libc::close(fd);
-    io::write_all(STDOUT_FILENO, name);
-    io::write_all(STDOUT_FILENO, b": ");
-    answer(name, &buf[..n]);
-    io::write_all(STDOUT_FILENO, b"\n");
+// The file of this name. One that cannot be opened is named on standard error, and passed over.
+fn run(rt: &(impl Files + Print + Eprint + AllocGlobal), name: &str) -> io::Result<()> {
+    let file = match fs::open(rt, name) {
+        Ok(file) => file,
+        Err(error) => return eprintln!(rt; "{name}: {error}"),
+    };
+    let mut bytes = Vec::new(rt.alloc());
+    file.take(MOST_READ).read_to_end(&mut bytes)?;
+    print!(rt; "{name}: ")?;
+    answer(rt, name.as_bytes(), bytes.as_slice())?;
+    println!(rt)
 }
 
-// The file that argument i names.
-fn one(i: usize) {
-    let mut name = io::buffer();
-    let n = os::arg(i, &mut name);
-    run(&name[..n]);
-}
-
-fn main() {
-    for i in 1..os::arg_count() {
-        one(i);
+fn main(rt: HostRuntime) -> io::Result<()> {
+    for name in env::args(&rt)?.skip(1) {
+        run(&rt, name.as_str())?;
     }
+    Ok(())
 }
