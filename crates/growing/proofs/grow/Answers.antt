@@ -44,11 +44,11 @@ overflow_add-right c =
 
 pub put_row-requires : goal.put_row-requires
 put_row-requires c =
-    (omega (arith, c.requires.wide, c.requires.rows_few, c.if-done-most.false), omega (arith, c.requires.long, c.requires.rows_few, c.if-done-most.false))
+    (omega (arith, c.requires.wide, c.requires.rows_few), omega (arith, c.requires.long, c.requires.rows_few))
 
 pub overflow_add-result : goal.overflow_add-result
 overflow_add-result c =
-    omega (arith, c.requires.rows_few, c.if-done-most.false)
+    omega (arith, c.requires.rows_few)
 
 pub returns : goal.returns
 returns c =

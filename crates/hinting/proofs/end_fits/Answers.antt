@@ -19,7 +19,8 @@ fit_rows-requires c =
 
 pub loop-j-preserved : goal.loop-j-preserved
 loop-j-preserved c =
-    (omega arith, λ q lo hi. go (λ (q : ℕ). same (leaf_of c.args.rows.now c.args.coefs.now c.args.i) (leaf_of c.args.endrows.now c.args.endcoefs.now q)) c.args.from c.loop-j.j c.loop-j.invariant.1 (sym c.fit_rows.ensures ∙ c.if-fit_rows.false) q lo hi (eqb q c.loop-j.j) refl)
+    let no : same (leaf_of c.args.rows.now c.args.coefs.now c.args.i) (leaf_of c.args.endrows.now c.args.endcoefs.now c.loop-j.j) ≡ false = cc in
+    (omega arith, λ q lo hi. go (λ (q : ℕ). same (leaf_of c.args.rows.now c.args.coefs.now c.args.i) (leaf_of c.args.endrows.now c.args.endcoefs.now q)) c.args.from c.loop-j.j c.loop-j.invariant.1 no q lo hi (eqb q c.loop-j.j) refl)
   where
     go : (f : ℕ → Bool) (from j : ℕ) → ((q : ℕ) → from ≤ q → q < j → f q ≡ false) → f j ≡ false → (q : ℕ) → from ≤ q → q < j + 1 → (b : Bool) → eqb q j ≡ b → f q ≡ false
     go f from j h k q lo hi true e = ap f (eqb-true q j e) ∙ k
