@@ -16,8 +16,11 @@ echo "output: No space left on device" | diff - "$out/full"
 "$program" <crates/zhargutai/stdin >&- 2>"$out/closed"
 echo "output: Bad file descriptor" | diff - "$out/closed"
 "$program" <crates/zhargutai/stdin >"$out/line" 2>"$out/none"
-[ ! -s "$out/none" ] && diff crates/zhargutai/stdout "$out/line"
+[ ! -s "$out/none" ]
+diff crates/zhargutai/stdout "$out/line"
 status=0
 "$program" <&- >"$out/unread" 2>"$out/why" || status=$?
-[ "$status" -eq 1 ] && [ ! -s "$out/unread" ] && grep -q "Bad file descriptor" "$out/why"
+[ "$status" -eq 1 ]
+[ ! -s "$out/unread" ]
+grep -q "Bad file descriptor" "$out/why"
 echo "the program says when its line cannot be written or its input not read"

@@ -18,7 +18,7 @@ use Rattle.relating.specs.Related.{Related}
 use Rattle.relating.proofs.Grounds.{sized, two-levels}
 use Rattle.batching.specs.Fill.{Ground}
 
--- tables that hold well_formed sets
+-- tables that hold well-formed sets
 pub related_ground : {rows masks : List ℕ} {coefs : List ℤ} {counts first end_rows end_masks : List ℕ} {end_coefs : List ℤ} {end_counts end_first : List ℕ} {wide plane n may spare : ℕ} {l next : Level} (at m : ℕ)
     → Related rows masks coefs counts first end_rows end_masks end_coefs end_counts end_first wide plane n → at + suc m ≡ n → IsLevel counts end_counts at l → IsLevel counts end_counts (at + 1) next
     → start_of counts (suc n) * wide ≤ may → plane ≤ spare → Ground rows masks first end_rows end_masks end_first wide plane may spare l next

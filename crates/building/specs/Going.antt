@@ -12,7 +12,7 @@ use Rattle.tablewise.proofs.TableKeys.{StatesOf}
 use Rattle.building.specs.declared.Room.{Room}
 use Rattle.building.specs.Whole.{Wide}
 
--- the slices hold a well_formed set with so many states, at k
+-- the slices hold a well-formed set with so many states, at k
 pub record Old (old oldmasks : List ℕ) (numbers : List ℤ) (first : List ℕ) (states k : ℕ) : Type 0 where
   pub set : QSet
   pub bounds : Bounds

@@ -91,11 +91,14 @@ module _ (e : ℕ) (h : e < elements_most) where
   word_at_lem : word_at e ≡ codes_of e
   word_at_lem = listed word_at [] elements_most (map codes_of (up_to 0 elements_most)) words_right e h ∙ sym (listed codes_of [] elements_most (map codes_of (up_to 0 elements_most)) refl e h)
 
-  -- a part of so many letters
-  module _ (n : ℕ) (k : n ≡ length (codes_of e)) where
+  -- a part of so many letters, copied to the front
+  module _ (n : ℕ) (k : n ≡ length (codes_of e)) (out exit : List ℕ) where
     abbrev part : List ℕ
     part = take n (drop (e * 6) codes)
 
     pub word_rule : part ≡ codes_of e
     unfolding word_at
     word_rule = ap (λ (m : ℕ). take m (drop (e * 6) codes)) (k ∙ sym letters_rule.0) ∙ word_at_lem
+
+    pub word_left : exit ≡ take (length part) part ++ drop (length part) out → exit ≡ codes_of e ++ drop (length (codes_of e)) out
+    word_left left = left ∙ ap (λ (l : List ℕ). l ++ drop (length part) out) (take-length part) ∙ ap (λ (l : List ℕ). l ++ drop (length l) out) word_rule

@@ -1,4 +1,4 @@
--- In slices that hold a well_formed set, the rows of a state of the leaf level can be read as its leaves. Assumes nothing.
+-- In slices that hold a well-formed set, the rows of a state of the leaf level can be read as its leaves. Assumes nothing.
 use mathlib.Core.Path.{◌≡◌, refl, sym, ap, ◌∙◌, subst}
 use mathlib.Core.Bool.{Bool, true, false}
 use mathlib.Core.List.{List, [], ◌∷◌}

@@ -1,4 +1,4 @@
--- Demand 2 for a circuit of which no gate is refused: the matrices one after the other, the same members, and a well_formed set. Assumes nothing.
+-- Demand 2 for a circuit of which no gate is refused: the matrices one after the other, the same members, and a well-formed set. Assumes nothing.
 use mathlib.Core.Path.{◌≡◌, refl, sym, ap, ◌∙◌, subst}
 use mathlib.Core.List.{List, [], ◌∷◌}
 use Prim.Native.Nat.{ℕ, suc, ◌<◌}

@@ -1,4 +1,4 @@
--- What an unrefused gate builds is a well_formed set: its bytes pass 1 to 10, are at most 49,248 long, and read back as that set. Assumes nothing.
+-- What an unrefused gate builds is a well-formed set: its bytes pass 1 to 10, are at most 49,248 long, and read back as that set. Assumes nothing.
 use mathlib.Core.Path.{◌≡◌, refl, sym, ap, ◌∙◌, subst}
 use mathlib.Core.Bool.{Bool, true, false, cond}
 use mathlib.Core.List.{List, [], ◌∷◌, map}
@@ -36,7 +36,7 @@ use Rattle.gates.proofs.BuildLevels.{TRStands, LFStands, counted, stand_tr, stan
 use Rattle.gates.proofs.Stages.{Stage, stage-moves, stage-ends, stage_root}
 use Rattle.gates.proofs.Demand2.{Valid, key_same, key_sound, keyed-moves, keyed-ends, roots_kept}
 
--- ---- a well_formed set's alternatives: masks of 32 bits, in order, with no choice in common
+-- ---- a well-formed set's alternatives: masks of 32 bits, in order, with no choice in common
 pub own-masked : {X : Type 0} (q : ℕ) (ts : List (Rec X)) → Each (λ t. Mask (mask_in t)) ts → Masked (own q ts)
 own-masked q [] h = tt
 own-masked {X} q (rec s m x ∷ ts) h = go (eqb s q) (own-masked q ts h.1)
@@ -195,7 +195,7 @@ module _ (b : Bounds) (Q : QSet) (w : WellFormed b Q) where
     lf_one-k [] h = tt
     lf_one-k (rec q m x ∷ ls) h = (h.0.leaf ∙ sym new_k, lf_one-k ls h.1)
 
-    -- an unrefused gate's result is well_formed
+    -- an unrefused gate's result is well-formed
     pub well_built : k_fits N ≡ true → sizes_fit b N ≡ true → leaves_fit N ≡ true → WellFormed b N
     unfolding trs_ok lfs_ok order_ok
     well_built k sizes range =

@@ -138,7 +138,7 @@ larger_allowance s c e b b' h f = go (judge_check s c e) f
     go (Judged.good J) u = ap says (larger (test J) 0 b b' (members J.start) h (final J (verdict J.start J.gates J.end b) u))
 
 -- ---- the image: what an unrefused check builds
--- the gates' result, one n, and all of it well_formed
+-- the gates' result, one n, and all of it well-formed
 pub record Image (J : Ready) (P : QSet) : Type 0 where
   pub start : WellFormed set_bounds J.start
   pub end : WellFormed end_bounds J.end

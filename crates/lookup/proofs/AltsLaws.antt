@@ -1,4 +1,4 @@
--- In slices that hold a well_formed set, the rows between two beginnings are the records of one state, in their order. Assumes nothing.
+-- In slices that hold a well-formed set, the rows between two beginnings are the records of one state, in their order. Assumes nothing.
 use mathlib.Core.Path.{◌≡◌, refl, sym, ap, ap₂, ◌∙◌}
 use mathlib.Core.List.{List, [], ◌∷◌, ◌++◌, append-nil}
 use Prim.Native.Nat.{ℕ, zero, suc, ◌+◌, ◌-◌, ◌<◌, ◌≤◌}
@@ -54,7 +54,7 @@ unfolding alts_from leaf_alts records_from
 map_rows rows masks coefs from zero = refl
 map_rows rows masks coefs from (suc count) = ap (λ (us : List (Alt Leaf)). alt (get_or masks from 0) (leaf_of rows coefs from) ∷ us) (map_rows rows masks coefs (from + 1) count)
 
--- ---- in slices that hold a well_formed set
+-- ---- in slices that hold a well-formed set
 module _ {b : Bounds} {Q : QSet} (w : WellFormed b Q) {rows masks : List ℕ} {coefs : List ℤ} {counts first : List ℕ} (h : Holds rows masks coefs counts first Q) (s : ℕ) where
   -- the rows between two beginnings are those of one state, of either kind
   pub all-rows : s < sum Q.counts → own s (tr_rows rows masks 0 (length Q.inner + length Q.leaves)) ≡ moves_in rows masks first s

@@ -1,4 +1,4 @@
--- In slices that hold a well_formed set a lookup finds exactly what the definitions say: its rows are ordered by state, so the rows between two
+-- In slices that hold a well-formed set a lookup finds exactly what the definitions say: its rows are ordered by state, so the rows between two
 -- beginnings are those of one state; a state is on one level, so it has TR records only or LF records only. Assumes nothing.
 use mathlib.Core.Path.{◌≡◌, refl, sym, ap, ap₂, ◌∙◌}
 use mathlib.Core.Bool.{Bool, true, false, cond}
@@ -130,7 +130,7 @@ module _ {rows masks : List ℕ} {coefs : List ℤ} {counts first : List ℕ} {Q
         let high = (below_splits rows (s + 1) total rising).low i (omega (arith, end)) in
         record { within = omega arith; state = omega arith; having = t.having }
 
--- ---- a well_formed set
+-- ---- a well-formed set
 module _ {b : Bounds} {Q : QSet} (w : WellFormed b Q) {rows masks : List ℕ} {coefs : List ℤ} {counts first : List ℕ} (h : Holds rows masks coefs counts first Q) (s c : ℕ) where
   pub no_leaf : level_of Q s ≤ Q.n → (l : LF) → FineLF Q l → state_in l ≡ s → ⊥
   no_leaf at (rec q m x) f e = omega (arith, f.state, ap (level_of Q) e)

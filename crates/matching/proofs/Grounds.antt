@@ -1,4 +1,4 @@
--- In slices that hold a well_formed set, the states of a level have rows whose children are states of the next level, and those of the last
+-- In slices that hold a well-formed set, the states of a level have rows whose children are states of the next level, and those of the last
 -- level have leaves that can be read. Assumes nothing.
 use mathlib.Core.Path.{◌≡◌, refl, sym, ap, ◌∙◌, subst}
 use mathlib.Core.Bool.{Bool, true, false}

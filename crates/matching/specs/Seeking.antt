@@ -1,5 +1,5 @@
 -- The search on tables, level by level over the marks of the pairs that are met: some word of the end set gives every such pair equal trees.
--- What it asks: both tables hold well_formed sets of n qubits, the word has their choices, and every pair has its place in the row of marks.
+-- What it asks: both tables hold well-formed sets of n qubits, the word has their choices, and every pair has its place in the row of marks.
 use Rattle.std.specs.Prelude.{◌≡◌, Bool, true, List, [], ◌∷◌, ℕ, zero, suc, ◌+◌, ◌*◌, ◌<◌, ◌≤◌, ℤ, length, get_or}
 use Rattle.automata.specs.Choice.{choices_most}
 use Rattle.automata.specs.Members.{choices}
@@ -47,7 +47,7 @@ pub record Hints (S E : Automaton ℕ) (word counts end_counts : List ℕ) (wide
   pub sound : Sound S E word counts end_counts wide may 0 n
   pub long : start_of counts (suc n) * wide ≤ length may
 
--- the slices hold a well_formed set of n qubits
+-- the slices hold a well-formed set of n qubits
 pub record Held (rows masks : List ℕ) (coefs : List ℤ) (counts first : List ℕ) (n : ℕ) : Type 0 where
   pub set : QSet
   pub bounds : Bounds

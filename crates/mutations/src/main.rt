@@ -3,14 +3,11 @@
 // write that fails ends the program with that error.
 #![tactic(auto)]
 
+use inputs::read_full;
 use refusals::Refusal;
 use setfile::{Bounds, SetAnswer};
-use std::io::Read;
 use std::rt::Files;
 use std::{env, fs, io};
-
-// The most bytes of a file that are read.
-const MOST_READ: u64 = 4096;
 
 // The refusal of a set file; its number is 0 where it is taken.
 fn judged(file: &[u8]) -> Refusal {
@@ -35,20 +32,23 @@ fn show(rt: &impl Print, r: Refusal) -> io::Result<()> {
     print!(rt; "{number}@{place}")
 }
 
-// What is said of these bytes, after a space if they are not the first of their line.
-fn show_front(rt: &impl Print, i: usize, front: &[u8]) -> io::Result<()> {
+// What is said of the first n bytes, after a space if it is not the first of its line.
+fn show_front(rt: &impl Print, i: usize, bytes: [u8; 4096], n: usize) -> io::Result<()> {
     if i != 0 {
         print!(rt; " ")?;
     }
-    show(rt, judged(front))
+    if n <= 4096 {
+        show(rt, judged(&bytes[..n]))?;
+    }
+    Ok(())
 }
 
-// Every cut of the bytes.
-fn cuts(rt: &impl Print, bytes: &[u8]) -> io::Result<()> {
-    for i in 0..bytes.len() {
-        show_front(rt, i, &bytes[..i])?;
+// Every cut of the first n bytes.
+fn cuts(rt: &impl Print, bytes: [u8; 4096], n: usize) -> io::Result<()> {
+    for i in 0..n {
+        show_front(rt, i, bytes, i)?;
     }
-    show_front(rt, bytes.len(), bytes)?;
+    show_front(rt, n, bytes, n)?;
     println!(rt)
 }
 
@@ -60,40 +60,40 @@ fn with_bit(x: u8, bit: u8) -> u8 {
     x
 }
 
-// The bytes with one bit of byte i changed.
-fn flipped(rt: &(impl Print + AllocGlobal), bytes: &[u8], i: usize, bit: u8) -> io::Result<()> {
-    let mut changed = bytes.to_vec(rt.alloc())?;
-    if i < changed.len() {
-        changed[i] = with_bit(changed[i], bit);
+// The first n bytes with one bit of byte i changed.
+fn flipped(rt: &impl Print, bytes: [u8; 4096], n: usize, i: usize, bit: u8) -> io::Result<()> {
+    let mut changed = bytes;
+    if i < 4096 {
+        changed[i] = with_bit(bytes[i], bit);
     }
-    show_front(rt, i, changed.as_slice())
+    show_front(rt, i, changed, n)
 }
 
-fn flips(rt: &(impl Print + AllocGlobal), bytes: &[u8], bit: u8) -> io::Result<()> {
-    for i in 0..bytes.len() {
-        flipped(rt, bytes, i, bit)?;
+fn flips(rt: &impl Print, bytes: [u8; 4096], n: usize, bit: u8) -> io::Result<()> {
+    for i in 0..n {
+        flipped(rt, bytes, n, i, bit)?;
     }
     println!(rt)
 }
 
-fn all_flips(rt: &(impl Print + AllocGlobal), bytes: &[u8]) -> io::Result<()> {
+fn all_flips(rt: &impl Print, bytes: [u8; 4096], n: usize) -> io::Result<()> {
     for bit in 0..8 {
-        flips(rt, bytes, bit)?;
+        flips(rt, bytes, n, bit)?;
     }
     Ok(())
 }
 
 // The file of this name. One that cannot be opened is named on standard error, and passed over.
-fn run(rt: &(impl Files + Print + Eprint + AllocGlobal), name: &str) -> io::Result<()> {
-    let file = match fs::open(rt, name) {
+fn run(rt: &(impl Files + Print + Eprint), name: &str) -> io::Result<()> {
+    let mut file = match fs::open(rt, name) {
         Ok(file) => file,
         Err(error) => return eprintln!(rt; "{name}: {error}"),
     };
-    let mut bytes = Vec::new(rt.alloc());
-    file.take(MOST_READ).read_to_end(&mut bytes)?;
+    let mut bytes = [0u8; 4096];
+    let count = read_full(&mut file, &mut bytes)?;
     println!(rt; "{name}")?;
-    cuts(rt, bytes.as_slice())?;
-    all_flips(rt, bytes.as_slice())
+    cuts(rt, bytes, count)?;
+    all_flips(rt, bytes, count)
 }
 
 fn main(rt: HostRuntime) -> io::Result<()> {

@@ -1,4 +1,4 @@
--- What is packed reads back: the front of the output is the file of the set, and a well_formed set's file is judged good, as that set.
+-- What is packed reads back: the front of the output is the file of the set, and a well-formed set's file is judged good, as that set.
 -- Assumes nothing.
 use mathlib.Core.Path.{◌≡◌, sym, ap, ◌∙◌}
 use mathlib.Core.List.{List}

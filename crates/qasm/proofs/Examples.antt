@@ -2,11 +2,13 @@
 -- nothing.
 use mathlib.Core.Path.{◌≡◌, refl}
 use mathlib.Core.List.{List, [], ◌∷◌, ◌++◌}
+use mathlib.Core.Bool.{false}
+use mathlib.Core.Option.{some}
 use Prim.Native.Nat.{ℕ}
 use Rattle.stored.specs.Refusal.{Judged, refused, good, refusal, circuit_source}
 use Rattle.gates.specs.Gate.{phase, flip, H, Gate, plain, controlled}
 use Rattle.qasm.specs.Lexed.{is_blank, is_digit, is_small, is_letter, goes_on, goes_on_digits, in_line, run_of, same_bytes, words, looked_up, word_token, all_digits, value_from, is_number, digits_token, included, symbol_token, is_comment, piece_at, line_after, lexed_from, lexed, end_line, line_of}
-use Rattle.qasm.specs.Fraction.{gcd_in, gcd, inside, reduced, sum_sign}
+use Rattle.qasm.specs.Fraction.{fraction, gcd_in, gcd, inside, reduced, sum_sign}
 use Rattle.qasm.specs.Reading.{Text, read_text}
 
 -- `OPENQASM 2.0;include "qelib1.inc";qreg q[2];` and a line's end
@@ -85,6 +87,11 @@ four_digits = refl
 five_digits : after (117 ∷ 49 ∷ 40 ∷ 10 ∷ 49 ∷ 48 ∷ 48 ∷ 48 ∷ 48 ∷ 42 ∷ 112 ∷ 105 ∷ 41 ∷ 113 ∷ 91 ∷ 48 ∷ 93 ∷ 59 ∷ []) ≡ nineteen 3
 unfolding heading after gates nineteen twenty is_blank is_digit is_small is_letter goes_on goes_on_digits in_line run_of same_bytes words looked_up word_token all_digits value_from is_number digits_token included symbol_token is_comment piece_at line_after lexed_from lexed end_line line_of gcd_in gcd inside reduced sum_sign read_text
 five_digits = refl
+
+-- two quarters are a half
+halved : reduced false 2 4 ≡ some (fraction false 1 2)
+unfolding reduced gcd gcd_in inside
+halved = refl
 
 -- `u1(1000*1000*pi/1000/1000)q[0];`: 1,000,000 passes
 largest : after (117 ∷ 49 ∷ 40 ∷ 49 ∷ 48 ∷ 48 ∷ 48 ∷ 42 ∷ 49 ∷ 48 ∷ 48 ∷ 48 ∷ 42 ∷ 112 ∷ 105 ∷ 47 ∷ 49 ∷ 48 ∷ 48 ∷ 48 ∷ 47 ∷ 49 ∷ 48 ∷ 48 ∷ 48 ∷ 41 ∷ 113 ∷ 91 ∷ 48 ∷ 93 ∷ 59 ∷ []) ≡ gates (plain (phase 4) 1 ∷ [])

@@ -1,4 +1,4 @@
--- Tables that hold well_formed sets give all that the functions on relations ask of a level. Assumes nothing.
+-- Tables that hold well-formed sets give all that the functions on relations ask of a level. Assumes nothing.
 use mathlib.Core.Path.{◌≡◌}
 use mathlib.Core.List.{List}
 use Prim.Native.Nat.{ℕ, suc, ◌+◌, ◌*◌, ◌<◌, ◌≤◌}

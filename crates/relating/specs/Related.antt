@@ -1,4 +1,4 @@
--- Both tables hold well_formed sets of n qubits, and the pairs of all levels have their places in a plane.
+-- Both tables hold well-formed sets of n qubits, and the pairs of all levels have their places in a plane.
 use Rattle.std.specs.Prelude.{List, ℕ, suc, ◌*◌, ◌≤◌, ℤ}
 use Rattle.matching.specs.Levels.{start_of}
 use Rattle.matching.specs.Seeking.{Held}

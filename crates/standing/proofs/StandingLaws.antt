@@ -1,4 +1,4 @@
--- What slices say of the set in them, and that a well_formed set which slices with room for it hold stands in them. Assumes nothing.
+-- What slices say of the set in them, and that a well-formed set which slices with room for it hold stands in them. Assumes nothing.
 use mathlib.Core.Path.{◌≡◌, refl, sym, ap, subst}
 use mathlib.Core.List.{List}
 use Prim.Native.Nat.{ℕ}

@@ -15,7 +15,7 @@ set_in f rows masks coefs counts = table_set f.n f.k rows masks coefs counts f.i
 abbrev pub form_of : QSet → Form
 form_of N = record { n = N.n; k = N.k; states = sum N.counts; inner = length N.inner; leaves = length N.leaves }
 
--- a well_formed set with these numbers stands in the slices
+-- a well-formed set with these numbers stands in the slices
 pub record Stands (rows masks : List ℕ) (coefs : List ℤ) (counts first : List ℕ) (form : Form) (b : Bounds) : Type 0 where
   pub formed : WellFormed b (set_in form rows masks coefs counts)
   pub unpacked : Unpacked rows masks coefs counts first (set_in form rows masks coefs counts)

@@ -170,7 +170,7 @@ module _ (A B : Automaton ℕ) (g : Gate) (light : Light g) (N : ℕ → ℕ →
       → (mention_all eqb ((coded g B).moves i) [] (map stored ks) ≡ map stored (mention_all same_key ((keyed g A).moves i) [] ks)) × Each (Numbers (N (suc i))) (mention_all same_key ((keyed g A).moves i) [] ks)
   next-stored i ks l h = all-code same_key eqb stored (keyed g A) (coded g B) (λ i. Numbers (N i)) last moves-stored ends-stored kids-stored agree_stored i ks [] l h tt
 
--- ---- of a well_formed set: the numbers of level i are its states there
+-- ---- of a well-formed set: the numbers of level i are its states there
 abbrev pub OnLevel : QSet → ℕ → ℕ → Type 0
 OnLevel Q i q = (level_of Q q ≡ i) × (q < radix)
 

@@ -1,4 +1,4 @@
--- A well_formed set's bytes pass rules 1 to 10, have the length that its counts give, and read back as that set. Assumes nothing.
+-- A well-formed set's bytes pass rules 1 to 10, have the length that its counts give, and read back as that set. Assumes nothing.
 use mathlib.Core.Path.{◌≡◌, refl, sym, ap, ◌∙◌}
 use mathlib.Core.Bool.{true}
 use mathlib.Core.List.{List, [], ◌∷◌, ◌++◌, map, append_assoc}

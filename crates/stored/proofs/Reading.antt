@@ -1,4 +1,4 @@
--- A set file that no rule refuses holds a well_formed set, the one that its bytes say. Assumes nothing.
+-- A set file that no rule refuses holds a well-formed set, the one that its bytes say. Assumes nothing.
 use mathlib.Core.Path.{◌≡◌, refl, ap, subst}
 use mathlib.Core.Bool.{Bool, true, false, not}
 use mathlib.Core.List.{List}
@@ -112,6 +112,6 @@ module _ (b : Bounds) (s : List ℕ) (bytes : Bytes s) (p : Passed b s (form_of 
         one_k = records-each (lf_at F.k s) (λ l. k_in l ≡ F.k) (λ at. refl) (lfs_at F) lf_size F.leaves;
       }
 
--- "Bad input is refused": what is not refused is a well_formed set
+-- "Bad input is refused": what is not refused is a well-formed set
 pub well_formed : (b : Bounds) (source : ℕ) (s : List ℕ) (Q : QSet) → Bytes s → judge_set b source s ≡ good Q → WellFormed b Q
 well_formed b source s Q bytes e = let j = judged b source s Q e in subst (WellFormed b) j.1 (passed-formed b s bytes j.0)

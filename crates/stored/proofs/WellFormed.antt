@@ -1,4 +1,4 @@
--- A well_formed set: what rules 3, 4 and 7 to 10 ask of it, that its masks have 32 bits, and that its leaves have its k. Assumes nothing.
+-- A well-formed set: what rules 3, 4 and 7 to 10 ask of it, that its masks have 32 bits, and that its leaves have its k. Assumes nothing.
 use mathlib.Core.Path.{◌≡◌, refl}
 use mathlib.Core.Bool.{Bool, true, false, cond, not}
 use Prim.Native.Nat.{ℕ, suc, ◌+◌, ◌^◌, ◌<◌, ◌≤◌}
@@ -92,7 +92,7 @@ in_range_lem a b c d e =
     let r = both (in_range c) _ q.1 in
     (leb-true _ _ p.0, leb-true _ _ q.0, leb-true _ _ r.0, leb-true _ _ r.1)
 
--- ---- of a well_formed set
+-- ---- of a well-formed set
 abbrev pub FineTR : QSet → TR → Type 0
 FineTR Q (rec s m p) = TrFine Q s m p.0 p.1
 

@@ -3,7 +3,7 @@ use Rattle.std.specs.Prelude.{◌≡◌, List, ℕ, suc, ◌*◌, ◌<◌, ◌�
 use Rattle.matching.specs.Levels.{start_of}
 use Rattle.matching.specs.Seeking.{Held}
 
--- both tables hold well_formed sets of n qubits, of at most 1,024 and 128 states, and the lent buffers are so long
+-- both tables hold well-formed sets of n qubits, of at most 1,024 and 128 states, and the lent buffers are so long
 pub record Lodged (rows masks : List ℕ) (coefs : List ℤ) (counts first end_rows end_masks : List ℕ) (end_coefs : List ℤ) (end_counts end_first : List ℕ) (met stack kept hints n : ℕ) : Type 0 where
   pub image : Held rows masks coefs counts first n
   pub ends : Held end_rows end_masks end_coefs end_counts end_first n

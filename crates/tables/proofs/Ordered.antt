@@ -1,4 +1,4 @@
--- In a well_formed set no state falls from record to record: rule 10 orders the records of each kind, and by rules 8 and 9 the TR records are of
+-- In a well-formed set no state falls from record to record: rule 10 orders the records of each kind, and by rules 8 and 9 the TR records are of
 -- levels above the leaves, so of smaller numbers. Assumes nothing.
 use mathlib.Core.Path.{◌≡◌, refl, ◌∙◌}
 use mathlib.Core.Bool.{Bool, true, false, cond}
@@ -60,7 +60,7 @@ module _ {X : Type 0} where
   ordered_climbs : (ts : List (Rec X)) → ordered ts ≡ true → Climbs (map state_in ts)
   ordered_climbs ts h = strict_map Follows (λ (x y : ℕ). x ≤ y) state_in follows_le ts (ordered_strictly ts h)
 
--- ---- a well_formed set
+-- ---- a well-formed set
 module _ (b : Bounds) (Q : QSet) (w : WellFormed b Q) where
   inner-before : (t : TR) (l : LF) → FineTR Q t → FineLF Q l → state_in t < state_in l
   inner-before (rec s m p) (rec q m' x) f g = go (dec_lt s q)

@@ -1,4 +1,4 @@
--- What a gate builds over stored keys from the slices that hold a well_formed set is what it builds from the set: on each level a state's rows are
+-- What a gate builds over stored keys from the slices that hold a well-formed set is what it builds from the set: on each level a state's rows are
 -- its records. Assumes nothing.
 use mathlib.Core.Path.{◌≡◌, sym}
 use mathlib.Core.List.{List, map}

@@ -1,4 +1,4 @@
--- In slices that hold a well_formed set, each state's rows have masks of 32 bits that share no choice, those of a leaf level too. Assumes nothing.
+-- In slices that hold a well-formed set, each state's rows have masks of 32 bits that share no choice, those of a leaf level too. Assumes nothing.
 use mathlib.Core.Path.{◌≡◌, refl, sym, ap, ◌∙◌, subst}
 use mathlib.Core.Bool.{Bool, true, false}
 use mathlib.Core.List.{List, [], ◌∷◌, ◌++◌}

@@ -4,14 +4,11 @@
 #![tactic(auto)]
 
 use circuitfile::CircuitAnswer;
+use inputs::read_full;
 use refusals::Refusal;
 use setfile::{Bounds, Form, SetAnswer};
-use std::io::Read;
 use std::rt::Files;
 use std::{env, fs, io};
-
-// The most bytes of a file that are read.
-const MOST_READ: u64 = 65536;
 
 // A space and a number.
 fn field(rt: &impl Print, n: u64) -> io::Result<()> {
@@ -89,15 +86,15 @@ fn answer(rt: &impl Print, name: &[u8], file: &[u8]) -> io::Result<()> {
 }
 
 // The file of this name. One that cannot be opened is named on standard error, and passed over.
-fn run(rt: &(impl Files + Print + Eprint + AllocGlobal), name: &str) -> io::Result<()> {
-    let file = match fs::open(rt, name) {
+fn run(rt: &(impl Files + Print + Eprint), name: &str) -> io::Result<()> {
+    let mut file = match fs::open(rt, name) {
         Ok(file) => file,
         Err(error) => return eprintln!(rt; "{name}: {error}"),
     };
-    let mut bytes = Vec::new(rt.alloc());
-    file.take(MOST_READ).read_to_end(&mut bytes)?;
+    let mut bytes = [0u8; 65536];
+    let count = read_full(&mut file, &mut bytes)?;
     print!(rt; "{name}: ")?;
-    answer(rt, name.as_bytes(), bytes.as_slice())?;
+    answer(rt, name.as_bytes(), &bytes[..count])?;
     println!(rt)
 }
 

@@ -1,5 +1,5 @@
 -- The members of the image by a walk over choices: level by level the states that a word reaches, in the order of words. What the walk asks:
--- both tables hold well_formed sets of n qubits, and there is room for the marks of the pairs that could match and a cell for each state of the image.
+-- both tables hold well-formed sets of n qubits, and there is room for the marks of the pairs that could match and a cell for each state of the image.
 use Rattle.std.specs.Prelude.{◌≡◌, Bool, cond, List, [], ◌∷◌, ℕ, zero, suc, ◌+◌, ◌*◌, ◌<◌, ◌≤◌, ℤ, get_or, set, take, replicate}
 use Rattle.automata.specs.Choice.{choices_most}
 use Rattle.automata.specs.Tree.{tree_of}

@@ -3,10 +3,9 @@
 // read that fails ends the program with that error, and no line is printed.
 #![tactic(auto)]
 
-ghost use Rattle.std.specs.Prelude.{◌≡◌, ◌≤◌, length, min, IfOk, IfSome};
-
+use inputs::read_full;
 use jobline::job_line;
-use std::io::{Read, Write};
+use std::io::Write;
 use std::{io, str};
 
 // The system's reason in an error's text, without its number.
@@ -32,17 +31,6 @@ fn put(rt: &(impl Print + Eprint), line: &[u8]) {
     if let Err(error) = rt.write_all(line) {
         let _ = tell(rt, error);
     }
-}
-
-// Reads until the buffer is full or the input ends, and says how much of the buffer that is.
-fn read_full<R: Read>(input: &mut R, buf: &mut [u8]) -> io::Result<usize>
-    ensures in_bounds { IfOk result (λ n. n ≤ length buf.new) }
-    ensures count { IfOk result (λ n. IfSome (R.remaining input.old) (λ xs. n ≡ min (length xs) (length buf.old))) }
-{
-    let most = buf.len();
-    let mut rest: &mut [u8] = buf;
-    let count = io::copy(&mut input.take(most as u64), &mut rest)?;
-    Ok(most.min(count as usize))
 }
 
 // Reads at most a byte more than the longest job, 18 + 3 * 65,536 bytes, so that a longer input is seen to be longer.

@@ -11,7 +11,7 @@ returns-then-seq-gt-SEQUENCE_MOST c =
 
 pub returns-then-not-good : goal.returns-then-not-good
 returns-then-not-good c =
-    c.refused-then-not-good.ensures ∙ ap reply_from (sym (too_large c.args.seq.now (omega (arith, c.if-seq-gt-SEQUENCE_MOST.false)) (sym c.all_elements-good.ensures ∙ c.if-not-good.true)))
+    c.refused-then-not-good.ensures ∙ ap reply_from (sym (too_large c.args.seq.now (omega arith) (sym c.all_elements-good.ensures ∙ c.if-not-good.true)))
 
 pub all_of-requires : goal.all_of-requires
 all_of-requires c =
@@ -20,4 +20,4 @@ all_of-requires c =
 pub returns : goal.returns
 returns c =
     c.made.ensures
-    ∙ ap reply_from (sym (closed_by c.args.seq.now (omega (arith, c.if-seq-gt-SEQUENCE_MOST.false)) (sym c.all_elements-good.ensures ∙ c.if-not-good.false) c.all_of.ensures.0 c.inverse_of.ensures))
+    ∙ ap reply_from (sym (closed_by c.args.seq.now (omega arith) (sym c.all_elements-good.ensures ∙ c.if-not-good.false) c.all_of.ensures.0 c.inverse_of.ensures))
