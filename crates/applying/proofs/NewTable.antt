@@ -1,27 +1,26 @@
 -- What building leaves is what the definitions judge: whether the sizes and the leaves fit, and where all fits, the set that the gate builds stands
 -- in the slices. Assumes nothing.
-use mathlib.Core.Path.{◌≡◌, refl, sym, ap, ap₂, ◌∙◌, subst}
+use mathlib.Core.Path.{◌≡◌, refl, sym, ap, ap₂, ◌∙◌}
 use mathlib.Core.Bool.{Bool, true, false, false≢true, ◌&&◌}
-use mathlib.Core.Logic.{◌⊎◌, inl, inr}
+use mathlib.Core.Logic.{inl, inr}
 use mathlib.Core.List.{List}
-use Prim.Native.Nat.{ℕ, ◌+◌, ◌*◌, ◌<◌, ◌≤◌}
+use Prim.Native.Nat.{ℕ, ◌+◌}
 use native.Mathlib.Omega.{arith}
 use lib.Dec.{leb}
 use lib.IntN.{ℤ}
-use lib.ListN.{length, get_or, take}
+use lib.ListN.{length, take}
 use borrow.Author.Tests.{le-leb, lt-leb}
 use Rattle.automata.specs.Sets.{TR, LF, QSet, sum}
 use Rattle.stored.specs.Refusal.{need, refusal, good, circuit_source}
-use Rattle.stored.specs.Rules.{Bounds}
 use Rattle.stored.proofs.Reading.{records-count}
 use Rattle.stored.proofs.WellFormed.{WellFormed}
 use Rattle.gates.specs.Gate.{Gate}
 use Rattle.gates.specs.Build.{growth, build_of, built}
 use Rattle.gates.specs.Refuse.{k_fits, sizes_fit, leaves_fit, judge_gate}
 use Rattle.gates.proofs.Fits.{Fits}
-use Rattle.gates.proofs.WellBuilt.{well_built, judged-gate}
+use Rattle.gates.proofs.WellBuilt.{well_built}
 use Rattle.setfile.specs.declared.Form.{Form}
-use Rattle.tables.specs.Table.{row_width, tr_row, tr_rows, lf_rows, table_set}
+use Rattle.tables.specs.Table.{tr_row, tr_rows, lf_rows, table_set}
 use Rattle.tables.specs.States.{state_row, Rising}
 use Rattle.tables.specs.Unpack.{Begun}
 use Rattle.tables.specs.Ready.{Roomy, Unpacked}
@@ -31,7 +30,6 @@ use Rattle.building.specs.declared.Room.{Room}
 use Rattle.building.specs.declared.Outcome.{Outcome}
 use Rattle.building.specs.Whole.{TooMany, Whole}
 use Rattle.standing.specs.Standing.{form_of, Holding}
-use Rattle.settling.specs.declared.GateResult.{GateResult}
 use Rattle.settling.specs.declared.GateResult.TheVariants.{Made}
 use Rattle.settling.specs.Result.{made_of, bounds_from, result_of, picked}
 use Rattle.settling.specs.Standing.{Lent, Indexable}

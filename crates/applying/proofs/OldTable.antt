@@ -1,26 +1,24 @@
 -- A set that stands in slices is what building asks of the old set, and its roots' keys are those of level 1. Assumes nothing.
-use mathlib.Core.Path.{◌≡◌, refl, sym, ap, ◌∙◌, subst}
+use mathlib.Core.Path.{◌≡◌, sym, ap, ◌∙◌, subst}
 use mathlib.Core.List.{List, [], ◌∷◌, map}
-use Prim.Native.Nat.{ℕ, zero, suc, ◌+◌, ◌<◌, ◌≤◌}
+use Prim.Native.Nat.{ℕ, suc, ◌+◌, ◌<◌, ◌≤◌}
 use native.Mathlib.Omega.{arith}
 use lib.IntN.{ℤ}
 use lib.ListN.{length, get_or, take}
 use Rattle.automata.specs.Sets.{QSet, sum, roots_in, roots}
 use Rattle.automata.specs.Members.{up_to}
 use Rattle.stored.specs.Rules.{Bounds}
-use Rattle.stored.proofs.Reading.{records-count}
-use Rattle.stored.proofs.WellFormed.{WellFormed}
 use Rattle.gates.specs.Gate.{Gate}
 use Rattle.gates.specs.Key.{radix, plain, stored}
 use Rattle.gates.specs.Build.{root_keys}
 use Rattle.setfile.specs.declared.Form.{Form}
-use Rattle.tables.specs.Table.{tr_row, lf_row, tr_rows, lf_rows, table_set}
-use Rattle.tables.specs.Ready.{Roomy, Unpacked}
+use Rattle.tables.specs.Table.{table_set}
+use Rattle.tables.specs.Ready.{Roomy}
 use Rattle.stepwise.proofs.StoredLaws.{Light}
 use Rattle.tablewise.proofs.TableKeys.{StatesOf, root_states}
 use Rattle.building.specs.Going.{Old, Going}
 use Rattle.standing.proofs.StandingLaws.{set-n, set-k, set-inner, set-leaves}
-use Rattle.standing.specs.Standing.{set_in, form_of, Stands, Holding}
+use Rattle.standing.specs.Standing.{set_in, Stands}
 
 -- ---- the numbers of a set in slices
 module _ (f : Form) (rows masks : List ℕ) (coefs : List ℤ) (counts : List ℕ) where

@@ -1,6 +1,6 @@
 -- One gate from slices to slices: building over the roots' keys is building of the old set, so what it left is judged as the definitions judge, and
 -- a result that is taken stands in the new slices. Assumes nothing.
-use mathlib.Core.Path.{◌≡◌, refl, sym, ap, ◌∙◌, subst}
+use mathlib.Core.Path.{◌≡◌, sym, ap, ◌∙◌, subst}
 use mathlib.Core.Bool.{true}
 use mathlib.Core.List.{List, map}
 use Prim.Native.Nat.{ℕ, ◌+◌, ◌<◌, ◌≤◌}

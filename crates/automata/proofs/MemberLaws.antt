@@ -7,7 +7,7 @@ use mathlib.Core.List.{List, [], ◌∷◌, map, Memᴰ}
 use Prim.Native.Nat.{ℕ, ◌<◌}
 use native.Mathlib.Omega.{arith}
 use Rattle.automata.specs.Sets.{QSet, automaton_of, roots, tree}
-use Rattle.automata.specs.Members.{Member, member, runs, members, words, up_to}
+use Rattle.automata.specs.Members.{Member, member, runs, words, up_to}
 use Rattle.automata.proofs.Lists.{flat_mem, flat_inv, map_mem, map_inv, up_to_mem, up_to_inv, Strictly, strict_flat, strict_map, strict_same, each_mapped}
 use Rattle.automata.proofs.Words.{is_some, Word, Earlier, earlier_asym, listed, told, in_order}
 

@@ -1,16 +1,14 @@
 -- The levels from one level on, as the code goes through them: what the level's growth and the levels below come to. Assumes nothing.
-use mathlib.Core.Path.{◌≡◌, refl, sym, ap, ap₂, ◌∙◌, subst}
+use mathlib.Core.Path.{◌≡◌, refl, sym, ap, ◌∙◌, subst}
 use mathlib.Core.Bool.{Bool, true, false, false≢true}
-use mathlib.Core.List.{List, [], ◌∷◌, ◌++◌}
-use Prim.Native.Nat.{ℕ, zero, suc, ◌+◌, ◌-◌, ◌*◌, ◌<◌, ◌≤◌}
+use mathlib.Core.List.{List, [], ◌∷◌}
+use Prim.Native.Nat.{ℕ, suc, ◌+◌, ◌-◌, ◌*◌, ◌<◌, ◌≤◌}
 use native.Mathlib.Omega.{arith}
 use lib.Dec.{eqb}
 use lib.IntN.{ℤ}
-use lib.ListN.{length, get_or, take, set, length-set}
+use lib.ListN.{length, take, set, length-set}
 use lib.Seq.{length-take-le}
 use borrow.Author.Tests.{eq-eqb}
-use borrow.Rule.Slice.PartMut.{put_mid}
-use Rattle.automata.specs.Sets.{TR, LF}
 use Rattle.gates.specs.Gate.{Gate}
 use Rattle.gates.specs.Roles.{role}
 use Rattle.gates.specs.Numbering.{Built, on_top, all_rows, mention_all, number}
@@ -20,16 +18,15 @@ use Rattle.stepwise.specs.Grow.{Level, begun, grow_all}
 use Rattle.stepwise.specs.Code.{coded}
 use Rattle.stepwise.proofs.GrowLaws.{all-keys}
 use Rattle.tablewise.proofs.TableKeys.{StatesOf, next-states}
-use Rattle.growing.specs.Growing.{level_in, Growing, Kept, Grew}
+use Rattle.growing.specs.Growing.{Grew}
 use Rattle.growing.specs.declared.Progress.{Progress}
-use Rattle.growing.specs.declared.Most.{Most}
 use Rattle.moving.specs.Moves.{moves_of}
 use Rattle.ending.specs.Ends.{ends_of}
 use Rattle.building.specs.declared.Room.{Room}
 use Rattle.building.specs.declared.Outcome.{Outcome}
-use Rattle.building.specs.Whole.{TooMany, Wide, Whole, Below, on_levels}
-use Rattle.building.specs.Going.{Lists, Going, Rest, Past}
-use Rattle.building.proofs.Steps.{level_on, number-suc, states-count, over-level, less_room, on_top_lem}
+use Rattle.building.specs.Whole.{TooMany, Whole, Below, on_levels}
+use Rattle.building.specs.Going.{Going}
+use Rattle.building.proofs.Steps.{number-suc, states-count, over-level, less_room, on_top_lem}
 
 pub first_count : (counts : List ℕ) (count : ℕ) → 1 ≤ length counts → take 1 (set counts 0 count) ≡ count ∷ []
 first_count [] count h = absurd (omega arith)

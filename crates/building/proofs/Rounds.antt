@@ -1,23 +1,20 @@
 -- From one level to the next: what a level's walk asks is there, and it leaves what the next one asks. Assumes nothing.
-use mathlib.Core.Path.{◌≡◌, refl, sym, ap, ◌∙◌, subst}
+use mathlib.Core.Path.{◌≡◌, sym, subst}
 use mathlib.Core.List.{List, [], ◌∷◌, map}
-use Prim.Native.Nat.{ℕ, zero, suc, ◌+◌, ◌-◌, ◌*◌, ◌<◌, ◌≤◌}
+use Prim.Native.Nat.{ℕ, zero, suc, ◌+◌, ◌-◌, ◌<◌, ◌≤◌}
 use native.Mathlib.Omega.{arith}
 use lib.IntN.{ℤ}
 use lib.ListN.{length, get_or, take}
 use lib.Seq.{get_or-take, length-take-le}
-use Rattle.automata.specs.Sets.{QSet, sum}
 use Rattle.automata.proofs.Lists.{Each}
 use Rattle.gates.specs.Gate.{Gate}
 use Rattle.gates.specs.Key.{L, R, Key, plain, shifted, inside, pair, stored}
-use Rattle.tables.specs.Table.{row_width}
 use Rattle.stepwise.specs.Code.{tag_in, first_in, second_in, KeyOf}
 use Rattle.stepwise.proofs.CodeLaws.{digits}
 use Rattle.stepwise.proofs.StoredLaws.{Numbers, OnLevel}
 use Rattle.lookup.proofs.Finding.{state_rows-there}
 use Rattle.tablewise.proofs.TableSource.{rows-masked, rows-disjoint}
-use Rattle.tablewise.proofs.TableKeys.{StatesOf, states-keys}
-use Rattle.growing.specs.declared.Most.{Most}
+use Rattle.tablewise.proofs.TableKeys.{states-keys}
 use Rattle.moving.specs.Moves.{Source}
 use Rattle.leveling.specs.Keyed.{Keyed}
 use Rattle.ending.specs.Source.{LeafState, LeafKey}

@@ -1,9 +1,9 @@
 -- A level on top of the levels below it: what the slices hold once the rest, in which those stand, has come back. Assumes nothing.
-use mathlib.Core.Path.{◌≡◌, refl, sym, ap, ap₂, ◌∙◌, subst}
-use mathlib.Core.Bool.{true, false, ◌&&◌}
-use mathlib.Core.Logic.{◌⊎◌, inl, inr}
+use mathlib.Core.Path.{◌≡◌, refl, sym, ap, ap₂, ◌∙◌}
+use mathlib.Core.Bool.{true}
+use mathlib.Core.Logic.{inl, inr}
 use mathlib.Core.List.{List, [], ◌∷◌, ◌++◌}
-use Prim.Native.Nat.{ℕ, zero, suc, ◌+◌, ◌-◌, ◌*◌, ◌<◌, ◌≤◌}
+use Prim.Native.Nat.{ℕ, zero, suc, ◌+◌, ◌-◌, ◌*◌, ◌≤◌}
 use native.Mathlib.Omega.{arith}
 use lib.Dec.{eqb}
 use lib.IntN.{ℤ}
@@ -16,8 +16,7 @@ use Rattle.gates.specs.Numbering.{Built, on_top, mention_all, number}
 use Rattle.tables.specs.Table.{row_width, tr_rows, lf_rows}
 use Rattle.stepwise.specs.Grow.{Level, begun, grow_all}
 use Rattle.stepwise.proofs.GrowLaws.{grown, all-keys}
-use Rattle.growing.specs.Growing.{level_in, Over, Grew}
-use Rattle.growing.specs.declared.Progress.{Progress}
+use Rattle.growing.specs.Growing.{Over}
 use Rattle.growing.specs.declared.Most.{Most}
 use borrow.Author.Tests.{eq-eqb}
 use Rattle.endrow.specs.Ended.{Lent, Ended}

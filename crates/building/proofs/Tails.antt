@@ -1,6 +1,6 @@
 -- The rest of a slice lent on: what the callee is lent, and what stands in the whole once it has come back. Rows before the rest are as they were,
 -- and those of the rest follow them. Assumes nothing.
-use mathlib.Core.Path.{◌≡◌, refl, sym, ap, ap₂, ◌∙◌}
+use mathlib.Core.Path.{◌≡◌, sym, ap, ap₂, ◌∙◌}
 use mathlib.Core.List.{List, ◌++◌, append-nil}
 use Prim.Native.Nat.{ℕ, ◌+◌, ◌-◌, ◌*◌, ◌<◌, ◌≤◌}
 use native.Mathlib.Omega.{arith}
@@ -8,8 +8,8 @@ use lib.IntN.{ℤ}
 use lib.ListN.{length, get_or, take, drop, length-append, length-drop, get_or-append}
 use lib.Seq.{take_all, drop-length, length-take-le, get_or-append-add, get_or-take}
 use borrow.Rule.Slice.PartMut.{put_mid, Post-is}
-use Rattle.automata.specs.Sets.{rec, TR, LF}
-use Rattle.tables.specs.Table.{row_width, tr_row, lf_row, leaf_row, tr_rows, lf_rows}
+use Rattle.automata.specs.Sets.{TR}
+use Rattle.tables.specs.Table.{row_width, tr_row, lf_row, tr_rows, lf_rows}
 use Rattle.tables.proofs.Listed.{same-records, records_append}
 
 module _ {A : Type 0} where

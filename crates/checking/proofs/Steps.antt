@@ -1,16 +1,14 @@
 -- From one phase of the check to the next: bounds as each asks for them, and what the files leave for the gates. Assumes nothing.
 use mathlib.Core.Path.{◌≡◌, sym, ap, ap₂, ◌∙◌, subst}
 use mathlib.Core.List.{List}
-use Prim.Native.Nat.{ℕ, ◌+◌, ◌*◌, ◌≤◌}
+use Prim.Native.Nat.{ℕ}
 use native.Mathlib.Omega.{arith}
-use lib.ListN.{length}
 use Rattle.stored.specs.Refusal as def
 use Rattle.stored.specs.Refusal.{refused, good}
 use Rattle.stored.specs.Rules.{Bounds, n_most}
 use Rattle.jobs.specs.Check.{Ready, ready}
 use Rattle.jobs.specs.Reply as reply
 use Rattle.tables.specs.Ready.{Roomy}
-use Rattle.setfile.specs.declared.Form.{Form}
 use Rattle.setfile.specs.declared.Bounds as code
 use Rattle.setfile.specs.Answer.{bounds_of}
 use Rattle.building.specs.declared.Room.{Room}

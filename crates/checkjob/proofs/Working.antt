@@ -1,10 +1,10 @@
 -- Slices of just their named sizes are what the check asks, over the bounds of every set; and what is left in them is what the job's definitions say.
 -- Assumes nothing.
 use mathlib.Core.Path.{◌≡◌, refl, ap, ap₂, ◌∙◌}
-use mathlib.Core.List.{List, [], ◌∷◌, ◌++◌}
-use Prim.Native.Nat.{ℕ, ◌≤◌}
+use mathlib.Core.List.{List, ◌∷◌, ◌++◌}
+use Prim.Native.Nat.{ℕ}
 use native.Mathlib.Omega.{arith}
-use lib.ListN.{length, take, drop, replicate}
+use lib.ListN.{take, drop, replicate}
 use lib.Seq.{length-take-le}
 use Rattle.jobs.specs.Buffers.{Buffer, unsigned, zeroed, wiped_all}
 use Rattle.jobs.specs.Check.{check_answer}

@@ -1,12 +1,12 @@
 -- The check's stages, files and then gates, are the order of refusals that the definitions have. Assumes nothing.
-use mathlib.Core.Path.{◌≡◌, refl, sym, ap, ◌∙◌}
+use mathlib.Core.Path.{◌≡◌, refl, sym, ap}
 use mathlib.Core.Bool.{Bool, true, false}
 use mathlib.Core.List.{List}
 use Prim.Native.Nat.{ℕ}
 use lib.Dec.{eqb}
 use Rattle.automata.specs.Sets.{QSet}
 use Rattle.stored.specs.Refusal.{Judged, refused, good, need, on_good, refusal, no_source, start_source, end_source}
-use Rattle.stored.specs.Rules.{Bounds, set_bounds, end_bounds}
+use Rattle.stored.specs.Rules.{set_bounds, end_bounds}
 use Rattle.stored.specs.Judge.{judge_set}
 use Rattle.gates.specs.Gate.{Gate}
 use Rattle.gates.specs.Circuit.{judge_circuit}

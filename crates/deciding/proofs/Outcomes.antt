@@ -1,5 +1,5 @@
 -- What the gates and the walk over the image come to: the reply to files that are all good. Assumes nothing.
-use mathlib.Core.Path.{◌≡◌, refl, sym, ap, ◌∙◌, subst}
+use mathlib.Core.Path.{◌≡◌, sym, ap, ◌∙◌}
 use mathlib.Core.List.{List}
 use Prim.Native.Nat.{ℕ}
 use Rattle.automata.specs.Sets.{QSet}
@@ -11,7 +11,7 @@ use Rattle.gates.specs.Gate.{Gate}
 use Rattle.gates.specs.Refuse.{after_gates}
 use Rattle.gates.proofs.Fits.{AllFit}
 use Rattle.verdict.specs.Verdict.{Verdict}
-use Rattle.jobs.specs.Check.{Ready, ready, answer}
+use Rattle.jobs.specs.Check.{ready, answer}
 use Rattle.jobs.specs.Reply as reply
 use Rattle.jobs.specs.Reply.{says, reply_of}
 use Rattle.setfile.specs.declared.Form.{Form}

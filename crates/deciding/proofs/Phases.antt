@@ -1,7 +1,7 @@
 -- From files that are all good to their gates: what these ask, and that they are the files' own. Assumes nothing.
-use mathlib.Core.Path.{◌≡◌, refl, sym, ap, ap₂, ◌∙◌, subst}
+use mathlib.Core.Path.{◌≡◌, sym, ap, ap₂, ◌∙◌, subst}
 use mathlib.Core.List.{List}
-use Prim.Native.Nat.{ℕ, ◌+◌, ◌*◌, ◌<◌, ◌≤◌}
+use Prim.Native.Nat.{ℕ, ◌≤◌}
 use native.Mathlib.Omega.{arith}
 use lib.ListN.{length}
 use Rattle.automata.specs.Sets.{QSet}
@@ -9,17 +9,16 @@ use Rattle.stored.specs.Refusal as def
 use Rattle.stored.specs.Refusal.{Judged, refused, good, on_good}
 use Rattle.stored.specs.Rules.{Bounds, n_most}
 use Rattle.gates.specs.Gate.{Gate}
-use Rattle.gates.proofs.Fits.{AllFit, circuit_fits}
+use Rattle.gates.proofs.Fits.{circuit_fits}
 use Rattle.jobs.specs.Check.{Ready, ready, answer}
 use Rattle.jobs.specs.Reply as reply
 use Rattle.jobs.specs.Reply.{reply_of}
 use Rattle.setfile.specs.declared.Form.{Form}
-use Rattle.standing.specs.Standing.{form_of, Stands}
+use Rattle.standing.specs.Standing.{form_of}
 use Rattle.building.specs.declared.Room.{Room}
 use Rattle.applying.specs.Result.{bounds_from}
-use Rattle.applying.specs.Standing.{Lent}
-use Rattle.carrying.specs.Tables.{Table, set_on, StandsOn, HoldingOn, LentOn}
-use Rattle.carrying.specs.Carried.{Readable, gates_from}
+use Rattle.carrying.specs.Tables.{Table, set_on, HoldingOn, LentOn}
+use Rattle.carrying.specs.Carried.{gates_from}
 use Rattle.carrying.proofs.Circuits.{Sound, circuit_sound}
 use Rattle.preparing.specs.declared.Files.{Files}
 use Rattle.preparing.specs.Prepared.{files_judged}

@@ -1,7 +1,7 @@
 -- In slices that hold a well-formed set, the rows of a state of the leaf level can be read as its leaves. Assumes nothing.
 use mathlib.Core.Path.{◌≡◌, refl, sym, ap, ◌∙◌, subst}
 use mathlib.Core.Bool.{Bool, true, false}
-use mathlib.Core.List.{List, [], ◌∷◌}
+use mathlib.Core.List.{List}
 use Prim.Native.Nat.{ℕ, zero, suc, ◌+◌, ◌-◌, ◌*◌, ◌<◌, ◌≤◌}
 use native.Mathlib.Omega.{arith}
 use lib.Dec.{leb}
@@ -9,8 +9,7 @@ use lib.IntN.{ℤ}
 use lib.ListN.{length, get_or}
 use borrow.Author.Tests.{leb-true, leb-false}
 use Rattle.amplitude.specs.Amp.{in_range_a}
-use Rattle.automata.specs.Choice.{Alt}
-use Rattle.automata.specs.Sets.{QSet, TR, LF, sum, own}
+use Rattle.automata.specs.Sets.{QSet, LF, sum}
 use Rattle.automata.proofs.Choosing.{Disjoint}
 use Rattle.automata.proofs.Order.{Masked}
 use Rattle.automata.proofs.Lists.{Each}
@@ -18,7 +17,7 @@ use Rattle.stored.specs.Fields.{records_from}
 use Rattle.stored.specs.Rules.{Bounds, level_of}
 use Rattle.stored.proofs.WellFormed.{WellFormed, FineTR, FineLF, k_in, trs_fine, lfs_fine, state_small}
 use Rattle.gates.proofs.WellBuilt.{own-masked, lf_masks_lem, valid}
-use Rattle.tables.specs.Table.{row_width, leaf_width, tr_row, lf_row, leaf_row, tr_rows, lf_rows, rows_below, table_set}
+use Rattle.tables.specs.Table.{row_width, tr_row, lf_row, leaf_row, tr_rows, lf_rows, rows_below, table_set}
 use Rattle.tables.specs.States.{state_row}
 use Rattle.tables.specs.Ready.{Roomy, Unpacked}
 use Rattle.tables.proofs.Beginnings.{Split, below_splits}

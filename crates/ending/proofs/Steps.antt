@@ -2,13 +2,13 @@
 -- of sums, of tests of each record and of lists put together. Assumes nothing.
 use mathlib.Core.Path.{◌≡◌, refl, sym, ap, ◌∙◌}
 use mathlib.Core.Bool.{Bool, true, false, ◌&&◌, and-true, and_assoc, false≢true}
-use mathlib.Core.List.{List, [], ◌∷◌, ◌++◌, append_assoc, append-nil}
-use Prim.Native.Nat.{ℕ, suc, ◌+◌, ◌<◌}
+use mathlib.Core.List.{List, [], ◌++◌, append_assoc, append-nil}
+use Prim.Native.Nat.{ℕ, ◌<◌}
 use native.Mathlib.Omega.{arith}
 use lib.Dec.{ltb}
 use lib.IntN.{ℤ}
-use lib.ListN.{length, length-append}
-use borrow.Author.Tests.{ne_eqb, ltb-true}
+use lib.ListN.{length-append}
+use borrow.Author.Tests.{ltb-true}
 use Rattle.amplitude.proofs.Equal.{both}
 use Rattle.automata.specs.Sets.{LF}
 use Rattle.stored.specs.Rules.{passes}

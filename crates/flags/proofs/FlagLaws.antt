@@ -7,7 +7,6 @@ use native.Mathlib.Nat.{pow-suc, div-one, div_self, div-eq_of_lt, mul-div-mul_ri
 use native.Mathlib.Decide.{dec_lt}
 use native.Mathlib.Omega.{arith}
 use lib.Dec.{eqb}
-use lib.Bits.{bit_or}
 use lib.ListN.{length, get_or, set, length-set}
 use lib.Seq.{get_or-set_same, get_or-set_other}
 use borrow.Author.Tests.{eqb-true, eqb-false}

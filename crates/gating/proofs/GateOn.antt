@@ -1,9 +1,8 @@
 -- A set that stands in slices and its circuit's one gate: what is asked of the gate, and what the job's judgement comes to. Assumes nothing.
-use mathlib.Core.Path.{◌≡◌, refl, sym, ap, ◌∙◌, subst}
+use mathlib.Core.Path.{◌≡◌, sym, ap, ◌∙◌, subst}
 use mathlib.Core.List.{List}
 use Prim.Native.Nat.{ℕ}
 use lib.IntN.{ℤ}
-use lib.ListN.{length}
 use Rattle.automata.specs.Sets.{QSet}
 use Rattle.stored.specs.Refusal as def
 use Rattle.stored.specs.Refusal.{Judged, refused, good, refusal, on_good, start_source}
@@ -23,13 +22,13 @@ use Rattle.circuits.proofs.Answers.{gate-back}
 use Rattle.setfile.specs.declared.Form.{Form}
 use Rattle.setfile.proofs.Taken.{Taken}
 use Rattle.tables.specs.Table.{table_set}
-use Rattle.standing.specs.Standing.{set_in, form_of, Stands, Holding}
+use Rattle.standing.specs.Standing.{set_in, Stands, Holding}
 use Rattle.loading.proofs.Loaded.{form-taken}
 use Rattle.replies.specs.declared.Reply.{Reply}
 use Rattle.replies.specs.Replied.{reply_from}
 use Rattle.gating.specs.declared.OneAnswer.TheVariants.{Is, Bad}
 use Rattle.gating.specs.Gated.{one_answer, gated_by, new_set_by, length_reply}
-use Rattle.gating.proofs.OneRead.{OneRead, is_one, bad-told, never_good, one-light, one-fit, gated, not_gated}
+use Rattle.gating.proofs.OneRead.{is_one, bad-told, never_good, one-light, one-fit, gated, not_gated}
 
 module _ (n : ℕ) (c : List ℕ) (g : code.Gate) (e : Is g ≡ one_answer (judge_one n c)) where
   gate-is : gate_is g ≡ (is_one n c g e).0.gate

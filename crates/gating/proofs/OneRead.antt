@@ -3,33 +3,30 @@ use mathlib.Core.Path.{◌≡◌, refl, sym, ap, ◌∙◌, subst}
 use mathlib.Core.Bool.{true, false, false≢true}
 use mathlib.Core.List.{List, [], ◌∷◌}
 use mathlib.Core.Option.{Option, none, some}
-use Prim.Native.Nat.{ℕ, suc, ◌+◌, ◌/◌, ◌≤◌}
+use Prim.Native.Nat.{ℕ, suc, ◌/◌}
 use native.Mathlib.Omega.{arith}
 use lib.Dec.{eqb}
 use lib.ListN.{length}
 use borrow.Author.Tests.{eqb-true}
-use Rattle.amplitude.proofs.Equal.{both}
 use Rattle.automata.specs.Sets.{QSet}
 use Rattle.stored.specs.Refusal as def
 use Rattle.stored.specs.Refusal.{Judged, refused, good, refusal, on_good, circuit_source}
 use Rattle.stored.specs.Fields.{records_from}
 use Rattle.stored.specs.Rules.{Bounds, passes, first_bad}
-use Rattle.stored.proofs.Reading.{need-good, good-same}
+use Rattle.stored.proofs.Reading.{need-good}
 use Rattle.gates.specs.Gate.{Gate}
 use Rattle.gates.specs.Circuit.{gt_size, gate_at, is_gate, somes, records_of, judge_gates, judge_one}
 use Rattle.gates.specs.Refuse.{judge_gate, after_gates}
-use Rattle.gates.proofs.Fits.{Fits, AllFit, one-fits}
+use Rattle.gates.proofs.Fits.{Fits, one-fits}
 use Rattle.stepwise.proofs.StoredLaws.{Light}
 use Rattle.refusals.specs.declared.Refusal.{Refusal}
 use Rattle.refusals.specs.Refused.{refused_by}
-use Rattle.circuits.specs.Answer.{gate_from, gate_is, gate_answer}
+use Rattle.circuits.specs.Answer.{gate_from, gate_answer}
 use Rattle.circuitfile.specs.Answer.{circuit_answer}
 use Rattle.circuits.specs.declared.GateAnswer.{GateAnswer}
 use Rattle.circuits.specs.declared.GateAnswer.TheVariants as of_gate
-use Rattle.circuitfile.specs.declared.CircuitAnswer.{CircuitAnswer}
 use Rattle.circuitfile.specs.declared.CircuitAnswer.TheVariants as of_circuit
 use Rattle.circuits.specs.declared.Gate as code
-use Rattle.circuits.proofs.Answers.{gate-back}
 use Rattle.applying.proofs.ReadGates.{read_light}
 use Rattle.gating.specs.declared.OneAnswer.{OneAnswer}
 use Rattle.gating.specs.declared.OneAnswer.TheVariants.{Is, Bad}

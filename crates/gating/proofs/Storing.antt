@@ -1,5 +1,5 @@
 -- What writing a set that stands in slices asks, and that its file is the set's. Assumes nothing.
-use mathlib.Core.Path.{◌≡◌, refl, sym, ap, ◌∙◌}
+use mathlib.Core.Path.{◌≡◌, sym, ap, ◌∙◌}
 use mathlib.Core.List.{List}
 use Prim.Native.Nat.{ℕ, ◌+◌, ◌*◌, ◌<◌, ◌≤◌}
 use native.Mathlib.Omega.{arith}
@@ -17,7 +17,7 @@ use Rattle.packing.specs.Written.{table_form, HasRows, at_front}
 use Rattle.replies.specs.declared.Reply.{Reply}
 use Rattle.replies.specs.Replied.{reply_from}
 use Rattle.setfile.specs.declared.Form.{Form}
-use Rattle.tables.specs.Table.{row_width, leaf_width, table_set}
+use Rattle.tables.specs.Table.{row_width, table_set}
 use Rattle.building.specs.declared.Room.{Room}
 use Rattle.standing.specs.Standing.{set_in, form_of, Stands, Holding}
 use Rattle.standing.proofs.StandingLaws.{set-n, set-inner, set-leaves}

@@ -7,7 +7,7 @@ use lib.Dec.{eqb, leb}
 use borrow.Author.Tests.{leb-true}
 use Rattle.amplitude.proofs.Equal.{both}
 use Rattle.automata.specs.Sets.{QSet}
-use Rattle.automata.specs.Members.{Member, member, members}
+use Rattle.automata.specs.Members.{member, members}
 use Rattle.automata.proofs.MemberLaws.{is_member_lem}
 use Rattle.stored.specs.Refusal.{Judged, good, refusal, no_source, start_source, end_source}
 use Rattle.stored.specs.Form.{form_of, set_of}

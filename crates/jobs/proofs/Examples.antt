@@ -10,7 +10,7 @@ use lib.Count.{count_trailing_zeros}
 use Rattle.amplitude.specs.Amp.{Amp, amp, times√2}
 use Rattle.amplitude.specs.Leaf.{Leaf, leaf, same}
 use Rattle.automata.specs.Tree.{Tree, tree_of, leaves_of, same_t}
-use Rattle.automata.specs.Sets.{TR, tr, LF, rec, QSet, automaton_of, tree}
+use Rattle.automata.specs.Sets.{tr, LF, rec, QSet, automaton_of, tree}
 use Rattle.automata.specs.Members.{Member, member, members}
 use Rattle.stored.specs.Refusal.{Judged}
 use Rattle.stored.specs.Fields.{u16_at, u32_at, i32_at, mark_at, records_from, bytes32}
@@ -23,7 +23,6 @@ use Rattle.gates.specs.Circuit.{gate_at, records_of, judge_gates, judge_circuit,
 use Rattle.gates.specs.Build.{built}
 use Rattle.gates.specs.Refuse.{judge_gate, after_gates}
 use Rattle.verdict.specs.Verdict.{verdict}
-use Rattle.jobs.specs.Reply.{refused}
 use Rattle.jobs.specs.OneGate.{new_set}
 use Rattle.jobs.specs.Check.{judge_by, judge_check}
 use Rattle.jobs.specs.Program.{input_ok, program_reply, line, printed}

@@ -1,6 +1,6 @@
 -- The one-gate job's whole effect where it is not refused: the output begins with a well-formed set of the same roots and members, whose trees
 -- are the gate's matrix applied to the old ones, and the output keeps its length. Assumes nothing.
-use mathlib.Core.Path.{◌≡◌, refl, ◌∙◌}
+use mathlib.Core.Path.{◌≡◌, ◌∙◌}
 use mathlib.Core.List.{List}
 use Prim.Native.Nat.{ℕ, ◌≤◌}
 use native.Mathlib.Omega.{arith}

@@ -2,7 +2,7 @@
 use mathlib.Core.Path.{◌≡◌, refl, sym, ap, ◌∙◌, subst}
 use mathlib.Core.Bool.{not}
 use mathlib.Core.List.{List}
-use Prim.Native.Nat.{ℕ, ◌+◌, ◌≤◌}
+use Prim.Native.Nat.{ℕ, ◌+◌}
 use native.Mathlib.Omega.{arith}
 use lib.Dec.{eqb}
 use lib.IntN.{ℤ}
@@ -11,7 +11,6 @@ use borrow.Author.Tests.{eqb-true}
 use Rattle.amplitude.proofs.Equal.{both}
 use Rattle.automata.specs.Sets.{QSet, sum, roots}
 use Rattle.stored.specs.Refusal.{Judged, good}
-use Rattle.stored.specs.Fields.{records_from}
 use Rattle.stored.specs.Form as stored
 use Rattle.stored.specs.Form.{set_of, tr_at, lf_at, trs_at, lfs_at, tr_size, lf_size, file_size}
 use Rattle.stored.specs.Rules.{Bounds, n_most, levels_ok}

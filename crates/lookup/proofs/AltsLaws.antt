@@ -7,13 +7,13 @@ use lib.IntN.{ℤ}
 use lib.ListN.{length, get_or}
 use Rattle.amplitude.specs.Leaf.{Leaf}
 use Rattle.automata.specs.Choice.{Alt, alt, map_alt}
-use Rattle.automata.specs.Sets.{LF, TR, QSet, sum, own}
+use Rattle.automata.specs.Sets.{QSet, sum, own}
 use Rattle.automata.proofs.Lists.{each_map}
 use Rattle.stored.specs.Fields.{records_from}
 use Rattle.stored.specs.Rules.{Bounds, level_of}
 use Rattle.stored.proofs.WellFormed.{WellFormed, FineTR, FineLF, trs_fine, lfs_fine, state_small}
 use Rattle.tables.specs.Table.{tr_rows, rows_below, Holds}
-use Rattle.tables.specs.States.{state_in, state_at, state_row, Rising}
+use Rattle.tables.specs.States.{state_in, state_row, Rising}
 use Rattle.tables.proofs.Beginnings.{below_splits}
 use Rattle.tables.proofs.Ordered.{formed-rises}
 use Rattle.tables.proofs.TableLaws.{named}

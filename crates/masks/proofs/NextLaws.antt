@@ -1,6 +1,6 @@
 -- The least choice of what is left of a mask, from a choice on, is its next one. Assumes nothing.
 use mathlib.Core.Path.{◌≡◌, sym, ap, ◌∙◌}
-use mathlib.Core.Bool.{true, false, false≢true}
+use mathlib.Core.Bool.{true, false≢true}
 use Prim.Native.Nat.{ℕ, ◌+◌, ◌-◌, ◌/◌, ◌%◌, ◌^◌, ◌<◌, ◌≤◌}
 use native.Mathlib.Decide.{dec_lt}
 use native.Mathlib.Nat.{div-div-eq-div-mul, div-le_self, div-eq_of_lt}
@@ -8,7 +8,7 @@ use native.Mathlib.Omega.{arith}
 use lib.Dec.{eqb}
 use lib.Pow.{pow-add, pow_mono}
 use Rattle.automata.specs.Choice.{has, least}
-use Rattle.automata.proofs.Masks.{Mask, has-zero, below-least, least_in}
+use Rattle.automata.proofs.Masks.{has-zero, below-least, least_in}
 use Rattle.masks.specs.Next.{NextChoice}
 
 -- a 32-bit mask has no other choices

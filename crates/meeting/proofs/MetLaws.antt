@@ -1,17 +1,17 @@
 -- A test of all pairs that are met on a level: what it says of each, that only the level's own marks matter, and what one pair more and none
 -- at all make of it. Assumes nothing.
-use mathlib.Core.Path.{◌≡◌, refl, sym, ap, ap₂, ◌∙◌}
+use mathlib.Core.Path.{◌≡◌, refl, sym, ap₂, ◌∙◌}
 use mathlib.Core.Bool.{Bool, true, false, cond, ◌&&◌, false≢true}
 use mathlib.Core.List.{List}
-use Prim.Native.Nat.{ℕ, zero, suc, ◌+◌, ◌-◌, ◌*◌, ◌<◌, ◌≤◌}
+use Prim.Native.Nat.{ℕ, ◌-◌, ◌*◌, ◌<◌, ◌≤◌}
 use native.Mathlib.Omega.{arith}
 use lib.Dec.{eqb}
 use borrow.Author.Tests.{eqb-true, eqb-false}
 use Rattle.amplitude.proofs.Equal.{both}
 use Rattle.meeting.specs.Met.{is_met, Meeting, Emptied}
-use Rattle.meeting.specs.All.{all_in, if_met, met_by, met_in, all_met}
+use Rattle.meeting.specs.All.{if_met, met_by, met_in, all_met}
 use Rattle.meeting.specs.declared.Level.{Level}
-use Rattle.meeting.proofs.AllLaws.{same_test, all_none, all_more, all_tells, all-is, all_ext}
+use Rattle.meeting.proofs.AllLaws.{same_test, all_tells, all-is, all_ext}
 
 -- the pair stands on the level
 pub record On (l : Level) (s e : ℕ) : Type 0 where

@@ -11,7 +11,7 @@ use lib.Dec.{eqb}
 use lib.ListN.{length, get_or, set, take, length-set}
 use lib.Seq.{length-take-le, get_or-take, get_or-set_same, get_or-set_other, take-suc-set}
 use borrow.Author.Tests.{eqb-true, eqb-false}
-use Rattle.gates.specs.Numbering.{is_in, place}
+use Rattle.gates.specs.Numbering.{is_in}
 use Rattle.gates.proofs.NumberingLaws.{place_lt}
 use Rattle.names.specs.declared.Found.{Found}
 use Rattle.names.specs.declared.Found.TheVariants.{At}

@@ -1,6 +1,6 @@
 -- What the answers of the files' stages tell, and what they come to one after the other. Assumes nothing.
-use mathlib.Core.Path.{◌≡◌, refl, sym, ap, ap₂, ◌∙◌, subst}
-use mathlib.Core.Bool.{Bool, true, false}
+use mathlib.Core.Path.{◌≡◌, refl, sym, ap, ◌∙◌}
+use mathlib.Core.Bool.{Bool}
 use mathlib.Core.List.{List}
 use Prim.Native.Nat.{ℕ}
 use native.Mathlib.Omega.{arith}
@@ -10,7 +10,6 @@ use borrow.Author.Tests.{eq-eqb, ne_eqb}
 use Rattle.automata.specs.Sets.{QSet}
 use Rattle.stored.specs.Refusal as def
 use Rattle.stored.specs.Refusal.{Judged, refused, good, need, on_good, refusal, no_source, start_source, end_source}
-use Rattle.stored.specs.Form.{set_of}
 use Rattle.stored.specs.Rules.{Bounds}
 use Rattle.stored.specs.Judge.{judge_set}
 use Rattle.stored.proofs.Reading.{need-good, good-same}
@@ -23,11 +22,8 @@ use Rattle.circuitfile.specs.Answer.{circuit_answer}
 use Rattle.circuitfile.specs.declared.CircuitAnswer.TheVariants as of_circuit
 use Rattle.setfile.specs.declared.Form.{Form}
 use Rattle.setfile.specs.declared.SetAnswer.TheVariants.{Good, Bad}
-use Rattle.setfile.proofs.Taken.{Taken}
 use Rattle.standing.specs.Standing.{form_of}
-use Rattle.preparing.specs.declared.Prepared.{Prepared}
 use Rattle.preparing.specs.declared.Prepared.TheVariants as code
-use Rattle.preparing.specs.declared.Files.{Files}
 use Rattle.preparing.specs.Prepared.{same_n, end_judged, end_ready, rest_judged, files_judged, form_answer, prepared_of}
 
 abbrev pub of_code : Refusal → def.Refusal

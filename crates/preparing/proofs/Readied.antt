@@ -16,7 +16,6 @@ use Rattle.gates.specs.Circuit.{judge_circuit}
 use Rattle.jobs.specs.Check.{Ready, ready}
 use Rattle.refusals.specs.declared.Refusal.{Refusal}
 use Rattle.refusals.specs.Refused.{refused_by}
-use Rattle.setfile.specs.declared.Form.{Form}
 use Rattle.standing.specs.Standing.{form_of}
 use Rattle.preparing.specs.declared.Prepared.TheVariants as code
 use Rattle.preparing.specs.declared.Files.{Files}

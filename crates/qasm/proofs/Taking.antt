@@ -13,7 +13,7 @@ use Rattle.qasm.specs.Angle.{sum, product, factor, Rank, Angle, whole, pie, one,
 use Rattle.qasm.specs.Grammar.{Call, alone, both, turn, Program, fits, all_fit, is_size, proper, indexed, write_call, write_calls, written}
 use Rattle.qasm.specs.Machine as machine
 use Rattle.qasm.specs.Machine.{Before, nothing, negated, taken, Open, begin, scaled, divided, Around, outside, within, Part, want, got, done, fill, close}
-use Rattle.qasm.specs.Reading.{Item, exactly, named, bracket, is_item, one_of, control, target, turned, Slot, naming, sizing, calling, aiming, turning, State, wait, Step, dies, twenty, goes, added, ending, to_index, bracket_place, in_angle, step, start}
+use Rattle.qasm.specs.Reading.{Item, exactly, named, is_item, one_of, control, target, turned, Slot, naming, sizing, calling, aiming, turning, State, wait, Step, dies, twenty, goes, added, ending, to_index, bracket_place, in_angle, step, start}
 use Rattle.qasm.proofs.Lists.{app, append-nil, passed}
 use Rattle.qasm.proofs.Steps.{token_of, is_item_lem, Test, ok_call, all_ok, Fine, Twenty}
 

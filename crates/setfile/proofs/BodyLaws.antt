@@ -1,7 +1,7 @@
 -- Rules 6 to 10 of a file as long as its header says: where each scan stops is where the rule's own list has its first bad record. Assumes nothing.
 use mathlib.Core.Path.{◌≡◌, refl, sym, ap, ap₂, ◌∙◌}
 use mathlib.Core.Bool.{Bool, true, false, cond, ◌&&◌}
-use mathlib.Core.List.{List, [], ◌∷◌, ◌++◌}
+use mathlib.Core.List.{List, [], ◌++◌}
 use Prim.Native.Nat.{ℕ, zero, suc, ◌+◌, ◌*◌, ◌≤◌}
 use native.Mathlib.Omega.{arith}
 use lib.ListN.{length, length-append}
@@ -11,7 +11,7 @@ use Rattle.automata.specs.Sets.{QSet, TR, rec}
 use Rattle.stored.specs.Fields.{mark_at, records_from}
 use Rattle.stored.specs.Form as stored
 use Rattle.stored.specs.Form.{form_of, set_of, hd_size, lv_size, tr_size, lf_size, trs_at, lfs_at, tr_at, lf_at}
-use Rattle.stored.specs.Rules.{passes, first_bad, first_fault, RecordKind, of_tr, of_lf, record_no, lv_marks, tr_marks, lf_marks, later_marks, marks_ok, mark_place, level_of, tr_fault, trs_ok, tr_number, tr_place, lf_ok, lfs_ok, lf_place, first_clash, ordered, order_ok, clash_place}
+use Rattle.stored.specs.Rules.{first_bad, first_fault, RecordKind, of_tr, of_lf, record_no, lv_marks, tr_marks, lf_marks, later_marks, marks_ok, mark_place, level_of, tr_fault, trs_ok, tr_number, tr_place, lf_ok, lfs_ok, lf_place, first_clash, ordered, order_ok, clash_place}
 use Rattle.stored.proofs.Reading.{records-count}
 use Rattle.stored.proofs.ScanLaws.{bad_append}
 use Rattle.stored.proofs.Places.{bad-most, clash_most}
@@ -21,9 +21,8 @@ use Rattle.order.proofs.PassLaws.{clash_is}
 use Rattle.scans.specs.declared.Ask.{Ask}
 use Rattle.scans.specs.declared.Ask.TheVariants.{Mark, Inner, Leaf}
 use Rattle.scans.specs.Asked.{passes_at}
-use Rattle.scans.proofs.ScanTurns.{mark_scan, tr_scan, lf_scan}
+use Rattle.scans.proofs.ScanTurns.{tr_scan, lf_scan}
 use Rattle.setfile.specs.declared.Form.{Form}
-use Rattle.setfile.specs.declared.Broken.{Broken}
 use Rattle.setfile.specs.Answer.{form_in, Whole}
 use Rattle.setfile.specs.Broken.{broken_at, unless, or_else, marks_broken, trs_broken, lfs_broken, order_broken}
 

@@ -1,5 +1,5 @@
 -- What a gate's answer tells its caller: a set that was made is the one that the definitions take, and a refusal is theirs. Assumes nothing.
-use mathlib.Core.Path.{◌≡◌, refl, sym, ap}
+use mathlib.Core.Path.{◌≡◌, refl, ap}
 use Prim.Native.Nat.{ℕ}
 use native.Mathlib.Omega.{arith}
 use Rattle.automata.specs.Sets.{QSet}

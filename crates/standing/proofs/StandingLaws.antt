@@ -11,7 +11,7 @@ use Rattle.stored.proofs.Reading.{records-count}
 use Rattle.setfile.specs.declared.Form.{Form}
 use Rattle.tables.specs.Table.{tr_row, lf_row, tr_rows, lf_rows, table_set}
 use Rattle.tables.specs.Ready.{Roomy, Unpacked}
-use Rattle.standing.specs.Standing.{set_in, form_of, Stands, Holding}
+use Rattle.standing.specs.Standing.{set_in, Holding}
 
 -- the set's numbers are those that the code says of it
 module _ (f : Form) (rows masks : List ℕ) (coefs : List ℤ) (counts : List ℕ) where

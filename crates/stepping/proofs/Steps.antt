@@ -3,21 +3,20 @@ use mathlib.Core.Path.{◌≡◌, refl, sym, ap, ap₂, ◌∙◌}
 use mathlib.Core.Bool.{Bool, true, false, ◌&&◌}
 use mathlib.Core.List.{List}
 use mathlib.Core.Option.{Option, none, some}
-use Prim.Native.Nat.{ℕ, ◌+◌, ◌-◌, ◌*◌, ◌<◌, ◌≤◌}
+use Prim.Native.Nat.{ℕ, ◌+◌, ◌*◌, ◌<◌, ◌≤◌}
 use native.Mathlib.Omega.{arith}
-use lib.ListN.{length, get_or}
-use Rattle.automata.specs.Choice.{choose}
+use lib.ListN.{get_or}
 use Rattle.lookup.specs.declared.Found.{Found}
 use Rattle.lookup.specs.declared.Found.TheVariants.{Row, Nothing}
 use Rattle.lookup.specs.Lookup.{transition_row, pair_row}
 use Rattle.lookup.specs.Alts.{alts_from}
 use Rattle.lookup.specs.Answer.{found}
 use Rattle.meeting.specs.declared.Level.{Level}
-use Rattle.meeting.specs.Met.{is_met, There, Meeting}
+use Rattle.meeting.specs.Met.{There, Meeting}
 use Rattle.meeting.specs.All.{all_met}
 use Rattle.meeting.proofs.Places.{words-before}
 use Rattle.meeting.proofs.MetLaws.{On, met_more}
-use Rattle.stepping.specs.Step.{move_in, kids, kids_in, Kin, Inner, KidsThere, Ready, Twice, Kept, Stepped}
+use Rattle.stepping.specs.Step.{move_in, kids, kids_in, Kin, KidsThere, Ready, Twice, Kept, Stepped}
 use Rattle.stepping.proofs.Answers.{taken, not_taken}
 
 -- ---- the row that a lookup found

@@ -1,17 +1,17 @@
 -- A walk over numbers of a range, each of which stands for some pairs: step by step the walk over those so far becomes that over all of them.
 -- Assumes nothing.
 use mathlib.Core.Path.{◌≡◌, refl, sym, ap, ap₂, ◌∙◌}
-use mathlib.Core.Bool.{Bool, true, false, cond, ◌&&◌, false≢true}
+use mathlib.Core.Bool.{Bool, true, false, cond, ◌&&◌}
 use mathlib.Core.List.{List}
 use Prim.Native.Nat.{ℕ, ◌+◌, ◌-◌, ◌*◌, ◌<◌, ◌≤◌, max}
 use native.Mathlib.Decide.{dec_lt}
 use native.Mathlib.Omega.{arith}
 use Rattle.meeting.specs.declared.Level.{Level}
-use Rattle.meeting.specs.Met.{is_met, There, Emptied}
-use Rattle.meeting.specs.All.{all_in, if_met, met_by, met_in, all_met}
+use Rattle.meeting.specs.Met.{There, Emptied}
+use Rattle.meeting.specs.All.{all_in, if_met, met_by, all_met}
 use Rattle.meeting.proofs.AllLaws.{all_none, all_more, all_tells, all-is, all_ext}
 use Rattle.meeting.proofs.Places.{words-before}
-use Rattle.meeting.proofs.MetLaws.{On, Same, met_same, met_none}
+use Rattle.meeting.proofs.MetLaws.{Same, met_same, met_none}
 use Rattle.stepping.specs.Step.{Ready, RowReady, Stage, Kept, Stepped, Gone}
 use Rattle.stepping.proofs.Steps.{kept_same, kept_on}
 

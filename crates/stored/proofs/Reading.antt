@@ -11,7 +11,7 @@ use Rattle.amplitude.specs.Leaf.{k_most}
 use Rattle.amplitude.proofs.Equal.{both}
 use Rattle.automata.specs.Sets.{QSet, sum, roots}
 use Rattle.automata.proofs.Lists.{Each}
-use Rattle.stored.specs.Refusal.{Refusal, Judged, refused, good, need}
+use Rattle.stored.specs.Refusal.{Refusal, Judged, good, need}
 use Rattle.stored.specs.Fields.{u16_at, u32_at, records_from}
 use Rattle.stored.specs.Form.{Form, form_of, hd_size, lv_size, tr_size, lf_size, levels, trs_at, lfs_at, count_at, tr_at, lf_at, set_of}
 use Rattle.stored.specs.Rules.{Bounds, n_most, ranges_ok, counts_ok, levels_ok, trs_ok, lfs_ok, order_ok, head_ok, version_ok, length_ok, marks_ok}

@@ -14,7 +14,6 @@ use Rattle.tables.specs.Table.{row_width, tr_row, lf_row, tr_rows, lf_rows, tabl
 use Rattle.tables.specs.States.{state_row, Rising}
 use Rattle.tables.specs.Unpack.{row_read, taken, Tabled, Leaved, Counted, Begun}
 use Rattle.tables.specs.Ready.{Ready, Unpacked}
-use Rattle.tables.specs.declared.Kind.TheVariants as kind
 use Rattle.tables.proofs.Listed.{same-records, take-records}
 use Rattle.tables.proofs.TableLaws.{map_rec, named, leaf-row, row-states-rise}
 

@@ -2,7 +2,7 @@
 -- its records. Assumes nothing.
 use mathlib.Core.Path.{◌≡◌, sym}
 use mathlib.Core.List.{List, map}
-use Prim.Native.Nat.{ℕ, suc, ◌<◌, ◌≤◌}
+use Prim.Native.Nat.{ℕ, ◌<◌, ◌≤◌}
 use native.Mathlib.Omega.{arith}
 use lib.Dec.{eqb}
 use lib.IntN.{ℤ}

@@ -5,7 +5,6 @@ use Prim.Native.Nat.{ℕ, suc, ◌+◌, ◌<◌, ◌≤◌}
 use native.Mathlib.Omega.{arith}
 use lib.Dec.{eqb}
 use lib.IntN.{ℤ}
-use lib.ListN.{length, get_or}
 use Rattle.automata.specs.Sets.{QSet, sum, roots, automaton_of}
 use Rattle.automata.proofs.Lists.{Each}
 use Rattle.stored.specs.Rules.{Bounds, level_of}

@@ -10,11 +10,11 @@ use Prim.Native.Nat.{ℕ, zero, suc, ◌+◌, ◌<◌, ◌≤◌}
 use native.Mathlib.Omega.{arith}
 use lib.ListN.{length, take, get_elem?}
 use Rattle.automata.specs.Tree.{Tree, tree_of}
-use Rattle.automata.specs.Sets.{QSet, automaton_of, tree}
-use Rattle.automata.specs.Members.{Member, member, runs, members}
+use Rattle.automata.specs.Sets.{QSet, automaton_of}
+use Rattle.automata.specs.Members.{Member, member, runs}
 use Rattle.automata.proofs.Lists.{Each}
 use Rattle.automata.proofs.MemberLaws.{IsMember, is-listed, is_member_lem}
-use Rattle.verdict.specs.Verdict.{end_tree, equals, is_one_of, is_state, Verdict, holds, fails, undecided, examine, verdict}
+use Rattle.verdict.specs.Verdict.{end_tree, equals, is_one_of, is_state, Verdict, holds, fails, undecided, examine}
 
 module _ (passes : Member → Bool) where
   abbrev pub AllPass : List Member → Type 0

@@ -7,7 +7,7 @@ use Prim.Native.Nat.{ℕ, zero, suc, ◌+◌, ◌-◌, ◌<◌, ◌≤◌}
 use native.Mathlib.Numerals.{add-one}
 use native.Mathlib.Omega.{arith}
 use lib.IntN.{ℤ}
-use lib.ListN.{length, get_or, take, set, replicate, length-append, length-replicate}
+use lib.ListN.{length, get_or, take, replicate, length-append, length-replicate}
 use Rattle.automata.specs.Choice.{choices_most}
 use Rattle.automata.specs.Tree.{Tree, tree_of}
 use Rattle.automata.specs.Sets.{automaton_of}

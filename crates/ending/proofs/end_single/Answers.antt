@@ -3,7 +3,6 @@ use mathlib.Core.Path.{◌≡◌}
 use mathlib.Core.Bool.{true}
 use Prim.Native.Nat.{◌<◌}
 use native.Mathlib.Omega.{arith}
-use Rattle.gates.specs.Numbering as numbering
 use Rattle.ending.proofs.Steps.{way_begin, going}
 use Rattle.ending.proofs.Singles.{single_on, single-end}
 use Rattle.ending.proofs.end_single.Goals as goal

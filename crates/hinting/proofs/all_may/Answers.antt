@@ -1,7 +1,6 @@
 -- All image states so far pass. Assumes nothing.
 -- image state s is marked with each end state that it meets
 use mathlib.Core.Path.{sym, ◌∙◌}
-use mathlib.Core.Bool.{true}
 use Prim.Native.Nat.{◌-◌}
 use native.Mathlib.Omega.{arith}
 use Rattle.meeting.specs.All.{met_in}

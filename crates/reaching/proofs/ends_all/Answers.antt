@@ -1,6 +1,5 @@
 -- The states so far have their transitions. Assumes nothing.
 use mathlib.Core.Path.{sym, ◌∙◌}
-use mathlib.Core.Bool.{true}
 use Prim.Native.Nat.{ℕ, ◌-◌}
 use native.Mathlib.Omega.{arith}
 use Rattle.lookup.specs.Lookup.{transition_row, is_some}

@@ -1,6 +1,5 @@
 -- The states so far were walked over. Assumes nothing.
 use mathlib.Core.Path.{refl}
-use mathlib.Core.Bool.{true}
 use native.Mathlib.Omega.{arith}
 use borrow.Author.Rules.{rules}
 use Rattle.reaching.specs.Reached.{kids_in}

@@ -1,7 +1,7 @@
 -- The mask has the choices that all reached states so far have. Assumes nothing.
 -- state s has choice d if it is reached
 use mathlib.Core.Path.{ap, ◌∙◌}
-use mathlib.Core.Bool.{Bool, true, ◌&&◌}
+use mathlib.Core.Bool.{Bool, ◌&&◌}
 use Prim.Native.Nat.{◌-◌}
 use native.Mathlib.Omega.{arith}
 use Rattle.automata.specs.Choice.{has}

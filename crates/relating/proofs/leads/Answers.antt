@@ -1,6 +1,5 @@
 -- The relations before j do not lead there. Assumes nothing.
 use mathlib.Core.Path.{sym, ◌∙◌}
-use mathlib.Core.Bool.{false}
 use native.Mathlib.Omega.{arith}
 use Rattle.meeting.proofs.Places.{words-before}
 use Rattle.relating.proofs.Relations.{below-is, below_none, none_on}

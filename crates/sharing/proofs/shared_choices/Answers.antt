@@ -1,7 +1,7 @@
 -- The mask has the choices that the end states of all image states so far have. Assumes nothing.
 -- all end states that image state s meets have choice d
 use mathlib.Core.Path.{ap, ◌∙◌}
-use mathlib.Core.Bool.{Bool, true, ◌&&◌}
+use mathlib.Core.Bool.{Bool, ◌&&◌}
 use Prim.Native.Nat.{◌-◌}
 use native.Mathlib.Omega.{arith}
 use Rattle.automata.specs.Choice.{has}

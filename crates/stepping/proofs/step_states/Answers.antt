@@ -1,7 +1,6 @@
 -- The image states so far were walked over. Assumes nothing.
 -- image state s passes with each end state that it meets
 use mathlib.Core.Path.{refl}
-use mathlib.Core.Bool.{true, false}
 use native.Mathlib.Omega.{arith}
 use borrow.Author.Rules.{rules}
 use Rattle.meeting.specs.All.{met_in}
