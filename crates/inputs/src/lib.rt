@@ -7,10 +7,12 @@ ghost use Rattle.std.specs.Prelude.{◌≡◌, ◌≤◌, length, min, IfOk, IfS
 use std::io;
 use std::io::Read;
 
-// Reads until the buffer is full or the input ends, and says how much of the buffer that is.
+// Reads until the buffer is full or the input ends, and says how much of the buffer that is. A read that fails leaves the buffer as long as it was;
+// what it holds then is not said.
 pub fn read_full<R: Read>(input: &mut R, buf: &mut [u8]) -> io::Result<usize>
     ensures in_bounds { IfOk result (λ n. n ≤ length buf.new) }
     ensures count { IfOk result (λ n. IfSome (R.remaining input.old) (λ xs. n ≡ min (length xs) (length buf.old))) }
+    ensures kept { length buf.new ≡ length buf.old }
 {
     let most = buf.len();
     let mut rest: &mut [u8] = buf;
