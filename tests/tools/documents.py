@@ -24,7 +24,7 @@ BY_TEST = {
     "tools/build": ".ci/run", "tools/build library": ".ci/run", "tools/build program": "README.md", "tools/build library program": ".ci/run",
     "rt check": "the gate proves every crate", "rt ci": ".ci/run", "rt ci NAME": "the gate proves every crate", "rt must-fail NAME": ".ci/run", "rt version": "figures", "rt doc": "the kit", "bash .ci/run": ".ci/run", "make": "README.md", "make install": "tests/library.sh", "cargo test": "tests/library.sh",
     "bash tests/NAME.sh": ".ci/run", "bash tests/zt.sh target/bin/zhargutai": ".ci/run", "bash tests/documents.sh": ".ci/run", "python3 tests/tools/documents.py --write": "a person",
-    "bash bench/run.sh ARCHIVE PROGRAM": "a person", "tools/respell.py": "a person", "ulimit -s 400": "tests/tools/calls.py", "tools/limits": "LIMITS.md", "tools/zt": "zt.sh", "target/bin/zhargutai": "zt.sh",
+    "bash bench/run.sh ARCHIVE PROGRAM": "a person", "tools/respell.py": "a person", "ulimit -s 400": "tests/tools/calls.py", "tools/limits": "LIMITS.md", "tools/forms": "a person", "tools/forms -l": "a person", "tools/zt": "zt.sh", "target/bin/zhargutai": "zt.sh",
 }
 ZT_INLINE = re.compile(r"(?:tools/)?zt (pack|show|job|check|explain|report|lint|states|sizes|draw|batch)\b")
 NEEDS_TARGET = re.compile(r"make|target/|^tools/(?!zt (explain|report) \S+ --expected)")
