@@ -14,6 +14,7 @@ use Rattle.gates.specs.Build.{root_keys}
 use Rattle.setfile.specs.declared.Form.{Form}
 use Rattle.tables.specs.Table.{table_set}
 use Rattle.tables.specs.Ready.{Roomy}
+use Rattle.tables.specs.Slices.{Table}
 use Rattle.stepwise.proofs.StoredLaws.{Light}
 use Rattle.tablewise.proofs.TableKeys.{StatesOf, root_states}
 use Rattle.building.specs.Going.{Old, Going}
@@ -44,16 +45,17 @@ module _ {rows masks : List ℕ} {coefs : List ℤ} {counts first : List ℕ} {f
   roomy =
       rw (set-n form rows masks coefs counts, sym s.all, set-inner form rows masks coefs counts, set-leaves form rows masks coefs counts) s.roomy
 
-  pub old_table : Old rows masks coefs first form.states form.k
+  abbrev T : Table
+  T = record { rows = rows; masks = masks; coefs = coefs; counts = counts; first = first }
+
+  pub old_table : Old T form.k
   old_table = record {
     set = Q;
     bounds = b;
     few = few;
     formed = s.formed;
-    counts = counts;
     unpacked = s.unpacked;
     roomy = roomy;
-    all = s.all;
     scale = sym (set-k form rows masks coefs counts);
   }
 
@@ -65,7 +67,7 @@ module _ {rows masks : List ℕ} {coefs : List ℤ} {counts first : List ℕ} {f
   root_keys_lem = ap (λ (m : ℕ). map stored (map plain (up_to 0 m))) (sym (set-roots form rows masks coefs counts))
 
   pub set_going : {g : Gate} {cur : List ℕ} → Light g → take (get_or counts 0 0) cur ≡ map stored (map plain (up_to 0 (get_or counts 0 0)))
-      → Going rows masks coefs first form.states form.k g 1 form.n cur (get_or counts 0 0)
+      → Going T form.k g 1 form.n cur (get_or counts 0 0)
   unfolding old_table
   set_going {g} {cur} light are = record {
     table = old_table;

@@ -1,13 +1,14 @@
 -- One gate from slices to slices: building over the roots' keys is building of the old set, so what it left is judged as the definitions judge, and
 -- a result that is taken stands in the new slices. Assumes nothing.
-use mathlib.Core.Path.{◌≡◌, sym, ap, ◌∙◌, subst}
-use mathlib.Core.Bool.{true}
+use mathlib.Core.Path.{◌≡◌, refl, sym, ap, ◌∙◌, subst}
+use mathlib.Core.Bool.{true, false≢true}
 use mathlib.Core.List.{List, map}
 use Prim.Native.Nat.{ℕ, ◌+◌, ◌<◌, ◌≤◌}
 use native.Mathlib.Omega.{arith}
 use lib.Dec.{eqb, leb}
 use lib.IntN.{ℤ}
 use lib.ListN.{length, get_or, take}
+use Rattle.std.specs.Prelude.{Option, Some, None, Result}
 use Rattle.automata.specs.Sets.{QSet}
 use Rattle.automata.specs.Members.{up_to}
 use Rattle.stored.specs.Refusal.{good}
@@ -19,6 +20,8 @@ use Rattle.gates.specs.Build.{growth, build_of, built}
 use Rattle.gates.specs.Refuse.{judge_gate}
 use Rattle.gates.proofs.Fits.{Fits}
 use Rattle.gates.proofs.WellBuilt.{judged-gate}
+use Rattle.refusals.specs.declared.Refusal.{Refusal}
+use Rattle.refusals.specs.Refused.{judged, seen}
 use Rattle.setfile.specs.declared.Form.{Form}
 use Rattle.tables.specs.Unpack.{Begun}
 use Rattle.lookup.specs.Alts.{table_automaton}
@@ -29,13 +32,12 @@ use Rattle.building.specs.declared.Room.{Room}
 use Rattle.building.specs.declared.Outcome.{Outcome}
 use Rattle.building.specs.Whole.{Whole}
 use Rattle.building.specs.Going.{Lists, Rest}
-use Rattle.standing.specs.Standing.{set_in, Stands, Holding}
-use Rattle.settling.specs.declared.GateResult.{GateResult}
-use Rattle.settling.specs.Result.{bounds_from, made_of, result_of, picked}
+use Rattle.standing.specs.Standing.{set_in, form_of, Stands, Holding}
+use Rattle.settling.specs.Result.{bounds_from, made_of, picked}
 use Rattle.settling.specs.Standing.{Lent, Indexable}
 use Rattle.standing.proofs.StandingLaws.{set-n, set-k}
 use Rattle.applying.proofs.OldTable.{root_count, root_keys_lem}
-use Rattle.applying.proofs.NewTable.{sizes_told, leaves-told, result_told, indexable, new-holds}
+use Rattle.applying.proofs.NewTable.{over_sizes, leaves-told, result_told, indexable, new-holds}
 
 growth-few : (g : Gate) → growth g ≤ 1
 growth-few (gate.plain (phase j) t) = omega arith
@@ -67,7 +69,7 @@ module _ {old oldmasks : List ℕ} {numbers : List ℤ} {oldcounts first : List 
   may_build l = record { wide = l.wide; counted = l.levels; few = root_count few s }
 
   module _ (g : Gate) (light : Light g) (fits : Fits form.n g) (grown : ℕ) (is : grown ≡ growth g) (cur : List ℕ)
-      (are : take (get_or oldcounts 0 0) cur ≡ map stored (map plain (up_to 0 (get_or oldcounts 0 0)))) {rows masks : List ℕ} {coefs : List ℤ} {counts : List ℕ} {r : Outcome}
+      (are : take (get_or oldcounts 0 0) cur ≡ map stored (map plain (up_to 0 (get_or oldcounts 0 0)))) {rows masks : List ℕ} {coefs : List ℤ} {counts : List ℕ} (r : Option Outcome)
       (left : Whole rows masks coefs counts room r (number eqb (coded g (table_automaton old oldmasks numbers first)) 1 form.n 0 (take (get_or oldcounts 0 0) cur))) where
     same-built : number eqb (coded g (table_automaton old oldmasks numbers first)) 1 form.n 0 (take (get_or oldcounts 0 0) cur) ≡ build_of g Q
     same-built =
@@ -89,25 +91,30 @@ module _ {old oldmasks : List ℕ} {numbers : List ℤ} {oldcounts first : List 
 
     -- what settling is lent
     pub may_settle : {newfirst : List ℕ} → Lent rows masks coefs counts newfirst form.n room
-        → (form.k + grown < 256) × (leb (form.k + grown) 64 ≡ true → r.ok ≡ true → r.fits ≡ true → Indexable rows newfirst (made_of form.n (form.k + grown) r))
+        → (form.k + grown < 256) × (leb (form.k + grown) 64 ≡ true → (o : Outcome) → r ≡ Some o → o.fits ≡ true → Indexable rows newfirst (made_of form.n (form.k + grown) o))
     may_settle l = (
       omega (arith, growth-few g, s.formed.k_few, set-k form old oldmasks numbers oldcounts),
-      λ k o fit. indexable g Q whole s.formed on_set (small-k k) o fit l,
+      λ k o e fit. indexable g Q (whole.made o e) s.formed on_set (small-k k) fit l,
     )
 
     -- the answer, and the new table
-    pub answer : {x : GateResult} (place : ℕ) → x ≡ picked (leb (form.k + grown) 64) r.ok r.fits place (made_of form.n (form.k + grown) r)
-        → x ≡ result_of (judge_gate (bounds_from room) place g Q)
-    answer place e = e ∙ result_told g Q whole place (sym (set-n form old oldmasks numbers oldcounts)) new_k
+    pub answer : (x : Result Form Refusal) (place : ℕ) → judged x ≡ picked (leb (form.k + grown) 64) r place form.n (form.k + grown)
+        → judged x ≡ seen form_of (judge_gate (bounds_from room) place g Q)
+    answer x place e = e ∙ result_told g Q place (sym (set-n form old oldmasks numbers oldcounts)) new_k r whole
 
     pub table : {newfirst : List ℕ} (place : ℕ) → Lent rows masks coefs counts newfirst form.n room
-        → (leb (form.k + grown) 64 ≡ true → r.ok ≡ true → r.fits ≡ true → Begun rows (r.inner + r.leaves) (r.states + 1) newfirst)
+        → (leb (form.k + grown) 64 ≡ true → (o : Outcome) → r ≡ Some o → o.fits ≡ true → Begun rows (o.inner + o.leaves) (o.states + 1) newfirst)
         → (N : QSet) → judge_gate (bounds_from room) place g Q ≡ good N → Holding rows masks coefs counts newfirst N (bounds_from room)
     unfolding built
-    table {newfirst} place l begun N e =
-        let j = judged-gate (bounds_from room) place g Q N e in
-        let o : r.ok ≡ true = sizes_told g Q whole ∙ j.1 in
-        let fit : r.fits ≡ true = leaves-told g Q whole o ∙ j.2 in
-        let k : leb (form.k + grown) 64 ≡ true = ap (λ (m : ℕ). leb m 64) new_k ∙ j.0 in
-        let lent : Lent rows masks coefs counts newfirst Q.n room = subst (λ (n : ℕ). Lent rows masks coefs counts newfirst n room) (sym (set-n form old oldmasks numbers oldcounts)) l in
-        subst (λ (M : QSet). Holding rows masks coefs counts newfirst M (bounds_from room)) j.3 (new-holds g Q whole s.formed on_set (small-k k) o fit lent (begun k o fit))
+    table {newfirst} place l begun N e = go r refl
+      where
+        go : (o : Option Outcome) → r ≡ o → Holding rows masks coefs counts newfirst N (bounds_from room)
+        go None z =
+            let j = judged-gate (bounds_from room) place g Q N e in
+            absurd (false≢true (sym (over_sizes room g Q (whole.over z)) ∙ j.1))
+        go (Some o) z =
+            let j = judged-gate (bounds_from room) place g Q N e in
+            let fit : o.fits ≡ true = leaves-told g Q (whole.made o z) ∙ j.2 in
+            let k : leb (form.k + grown) 64 ≡ true = ap (λ (m : ℕ). leb m 64) new_k ∙ j.0 in
+            let lent : Lent rows masks coefs counts newfirst Q.n room = subst (λ (n : ℕ). Lent rows masks coefs counts newfirst n room) (sym (set-n form old oldmasks numbers oldcounts)) l in
+            subst (λ (M : QSet). Holding rows masks coefs counts newfirst M (bounds_from room)) j.3 (new-holds g Q (whole.made o z) s.formed on_set (small-k k) fit lent (begun k o z fit))

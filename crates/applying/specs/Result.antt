@@ -1,2 +1,2 @@
 -- What a gate's result is, passed on for the crates that apply gates: crates/settling has it.
-pub use Rattle.settling.specs.Result.{made_of, bounds_from, result_of, picked}
+pub use Rattle.settling.specs.Result.{made_of, bounds_from, picked}

@@ -10,7 +10,7 @@ use lib.IntN.{ℤ}
 use lib.ListN.{length, get_or}
 use borrow.Author.Tests.{ltb-false}
 use Rattle.automata.specs.Choice.{choices_most, has}
-use Rattle.masks.specs.Next.{NextChoice}
+use Rattle.masks.specs.Next.{FirstFrom, NoneFrom}
 use Rattle.lookup.specs.Alts.{table_automaton}
 use Rattle.meeting.specs.declared.Level.{Level}
 use Rattle.meeting.specs.All.{all_met}
@@ -60,16 +60,27 @@ module _ {rows masks first end_rows end_masks end_first : List ℕ} {c wide plan
   }
 
   -- on to the next choice that all end states have
-  pub takes_next : {stack row : List ℕ} {d r shared till : ℕ} → Taking rows masks first end_rows end_masks end_first c wide plane may entry q room met l next from stack row d r
-      → ((b : ℕ) → b < choices_most → has shared b ≡ all_met (has_choice end_masks end_first b) wide met l) → NextChoice shared d till
-      → Taking rows masks first end_rows end_masks end_first c wide plane may entry q room met l next from stack row till r
-  takes_next {till = till} t is n = record {
-    trying = t.trying;
-    whole = whole_skip till (λ b lo hi. sym (is b (omega (arith, n.most))) ∙ n.skipped b lo hi) t.whole;
-    most = n.most;
-    still = λ e. t.still (omega (arith, t.least, n.after));
-    least = omega (arith, t.least, n.after);
-  }
+  module _ {stack row : List ℕ} {d r shared : ℕ} (t : Taking rows masks first end_rows end_masks end_first c wide plane may entry q room met l next from stack row d r)
+      (is : (b : ℕ) → b < choices_most → has shared b ≡ all_met (has_choice end_masks end_first b) wide met l) where
+    pub takes_next : {till : ℕ} → FirstFrom shared d till → Taking rows masks first end_rows end_masks end_first c wide plane may entry q room met l next from stack row till r
+    takes_next {till} n =
+        let b = n.below in
+        record {
+          trying = t.trying;
+          whole = whole_skip till (λ b lo hi. sym (is b (omega (arith, n.below))) ∙ n.skipped b lo hi) t.whole;
+          most = omega arith;
+          still = λ e. t.still (omega (arith, t.least, n.after));
+          least = omega (arith, t.least, n.after);
+        }
+
+    pub takes_all : NoneFrom shared d → Taking rows masks first end_rows end_masks end_first c wide plane may entry q room met l next from stack row 32 r
+    takes_all n = record {
+      trying = t.trying;
+      whole = whole_skip 32 (λ b lo hi. sym (is b hi) ∙ n.all b lo hi) t.whole;
+      most = omega arith;
+      still = λ e. t.still (omega (arith, t.least, t.most));
+      least = omega (arith, t.least, t.most);
+    }
 
   pub took : {stack row : List ℕ} {d r : ℕ} → Taking rows masks first end_rows end_masks end_first c wide plane may entry q room met l next from stack row d r → (d < 32 → r < room → ⊥)
       → Took rows masks first end_rows end_masks end_first c wide plane may entry q room met l next from d stack r

@@ -7,7 +7,9 @@ use Prim.Native.Nat.{ℕ, suc, ◌+◌, ◌-◌, ◌*◌, ◌<◌, ◌≤◌}
 use native.Mathlib.Decide.{dec_lt}
 use native.Mathlib.Omega.{arith}
 use lib.IntN.{ℤ}
-use lib.ListN.{get_or}
+use lib.ListN.{get_or, drop}
+use lib.Seq.{get_or-take, get_or-drop}
+use Rattle.std.specs.List.{slice_range}
 use Rattle.automata.specs.Tree.{Automaton}
 use Rattle.lookup.specs.Alts.{table_automaton}
 use Rattle.meeting.specs.declared.Level.{Level}
@@ -157,10 +159,14 @@ module _ {rows masks first end_rows end_masks end_first : List ℕ} {c wide plan
       go coefs end_coefs word at m e k d lo hi h (no ge) = b.each coefs end_coefs word at m e k d (omega arith) hi h
 
 -- ---- words that are the same
-pub same_on : (words : List ℕ) (at : ℕ) (others : List ℕ) (there : ℕ) {i : ℕ} → ((k : ℕ) → k < i → get_or words (at + k) 0 ≡ get_or others (there + k) 0) → get_or words (at + i) 0 ≡ get_or others (there + i) 0
-    → (k : ℕ) → k < i + 1 → get_or words (at + k) 0 ≡ get_or others (there + k) 0
-same_on words at others there {i} h e k lt = go (dec_lt k i)
-  where
-    go : Dec (k < i) → get_or words (at + k) 0 ≡ get_or others (there + k) 0
-    go (yes less) = h k less
-    go (no more) = let same : k ≡ i = omega arith in rw same e
+-- a word of a part
+part_word : (words : List ℕ) (at count i : ℕ) → i < count → get_or (slice_range words at (at + count)) i 0 ≡ get_or words (at + i) 0
+part_word words at count i lt =
+    let few : i < at + count - at = omega arith in
+    get_or-take (at + count - at) (drop at words) i 0 few ∙ get_or-drop at words i 0
+
+pub same_parts : (words others : List ℕ) (plane j at : ℕ) {start : ℕ} (there count : ℕ) → start ≡ j * plane + at → slice_range words start (start + count) ≡ slice_range others there (there + count)
+    → (i : ℕ) → i < count → get_or words (j * plane + at + i) 0 ≡ get_or others (there + i) 0
+same_parts words others plane j at {start} there count e same i lt =
+    ap (λ (x : ℕ). get_or words (x + i) 0) (sym e)
+    ∙ sym (part_word words start count i lt) ∙ ap (λ (s : List ℕ). get_or s i 0) same ∙ part_word others there count i lt

@@ -3,6 +3,7 @@ use Rattle.std.specs.Prelude.{◌≡◌, true, false, List, ℕ, ◌+◌, ◌*�
 use Rattle.automata.specs.Tree.{Automaton}
 use Rattle.lookup.specs.Alts.{table_automaton}
 use Rattle.meeting.specs.declared.Level.{Level}
+use Rattle.batching.specs.declared.Step.{Step}
 use Rattle.meeting.specs.Met.{is_met}
 use Rattle.meeting.specs.All.{all_met}
 use Rattle.matching.specs.Seeking.{sought, tried}
@@ -52,3 +53,13 @@ pub record Batched (rows masks first end_rows end_masks end_first : List ℕ) (c
       → (k d : ℕ) → d < 32 → from ≤ k * 32 + d → k * 32 + d < to
       → tried (table_automaton rows masks coefs first) (table_automaton end_rows end_masks end_coefs end_first) word at m d wide (plane_of plane stack k) l ≡ true
       → found (table_automaton rows masks coefs first) (table_automaton end_rows end_masks end_coefs end_first) word (at + 1) m wide plane stack' r next ≡ true
+
+-- ---- of a step
+abbrev pub WholeOn : Step → List ℕ → ℕ → List ℕ → ℕ → ℕ → List ℕ → ℕ → Type 0
+WholeOn t stack q met from to stack' r = Whole t.sides.image.rows.now t.sides.image.masks.now t.sides.image.first.now t.sides.end.rows.now t.sides.end.masks.now t.sides.end.first.now t.c t.sides.wide t.plane t.may.now stack q met t.level t.next from to stack' r
+
+abbrev pub TookOn : Step → List ℕ → ℕ → List ℕ → ℕ → ℕ → List ℕ → ℕ → Type 0
+TookOn t stack q met from to stack' r = Took t.sides.image.rows.now t.sides.image.masks.now t.sides.image.first.now t.sides.end.rows.now t.sides.end.masks.now t.sides.end.first.now t.c t.sides.wide t.plane t.may.now stack q t.room met t.level t.next from to stack' r
+
+abbrev pub BatchedOn : Step → List ℕ → ℕ → ℕ → ℕ → List ℕ → ℕ → Type 0
+BatchedOn t stack p from to stack' r = Batched t.sides.image.rows.now t.sides.image.masks.now t.sides.image.first.now t.sides.end.rows.now t.sides.end.masks.now t.sides.end.first.now t.c t.sides.wide t.plane t.may.now stack p t.room t.level t.next from to stack' r

@@ -1,7 +1,8 @@
 -- Relations of the next level from those of a level: what making them asks, and what it leaves.
-use Rattle.std.specs.Prelude.{◌≡◌, true, List, ◌⊎◌, ℕ, suc, ◌+◌, ◌*◌, ◌<◌, ◌≤◌, ℤ, get_or}
+use Rattle.std.specs.Prelude.{◌≡◌, true, List, ◌⊎◌, ℕ, suc, ◌+◌, ◌*◌, ◌<◌, ◌≤◌, ℤ, length, get_or}
 use Rattle.lookup.specs.Alts.{table_automaton}
 use Rattle.meeting.specs.declared.Level.{Level}
+use Rattle.batching.specs.declared.Step.{Step}
 use Rattle.stepping.specs.Step.{Stage}
 use Rattle.matching.specs.Seeking.{sought}
 use Rattle.relating.specs.Found.{found}
@@ -36,3 +37,10 @@ pub record Filled (rows masks first end_rows end_masks end_first : List ℕ) (c 
   pub sound : (coefs end_coefs : List ℤ) (word : List ℕ) (at m : ℕ) → get_or word at 0 ≡ c
       → found (table_automaton rows masks coefs first) (table_automaton end_rows end_masks end_coefs end_first) word (at + 1) m wide plane stack' q next ≡ true
       → found (table_automaton rows masks coefs first) (table_automaton end_rows end_masks end_coefs end_first) word at (suc m) wide plane stack p l ≡ true
+
+-- ---- of a step
+abbrev pub GroundOn : Step → ℕ → Type 0
+GroundOn t spare = Ground t.sides.image.rows.now t.sides.image.masks.now t.sides.image.first.now t.sides.end.rows.now t.sides.end.masks.now t.sides.end.first.now t.sides.wide t.plane (length t.may.now) spare t.level t.next
+
+abbrev pub GrownOn : Step → List ℕ → ℕ → ℕ → List ℕ → List ℕ → ℕ → Type 0
+GrownOn t stack q most met stack' r = Grown t.sides.image.rows.now t.sides.image.masks.now t.sides.image.first.now t.sides.end.rows.now t.sides.end.masks.now t.sides.end.first.now t.c t.sides.wide t.plane stack q most met t.level t.next stack' r

@@ -8,15 +8,28 @@ ghost use Rattle.automata.specs.Choice.{choices_most};
 ghost use Rattle.stepping.specs.Step.{Kept};
 ghost use Rattle.relating.specs.Found.{plane_of};
 ghost use Rattle.relating.specs.Planes.{Room};
-ghost use Rattle.batching.specs.Fill.{Ground, Grown};
-ghost use Rattle.batching.specs.Batch.{Stands, Joined, Whole, Took, Batched};
+ghost use Rattle.batching.specs.Fill.{GroundOn, GrownOn};
+ghost use Rattle.batching.specs.Batch.{Stands, Joined, WholeOn, TookOn, BatchedOn};
 
 use hinting::all_may;
 use masks::next_choice;
-use meeting::Level;
+use meeting::{Level, Sides};
 use relating::{cell, copy_out, copy_words, words};
 use sharing::shared_choices;
 use stepping::step_down;
+
+// One level down, by choice c of the image's word: the marks of the pairs that could match, both levels, the words of a plane, and the planes
+// that there is room for.
+#[derive(Clone, Copy)]
+pub struct Step<'a> {
+    pub sides: Sides<'a>,
+    pub may: &'a [u32],
+    pub c: u8,
+    pub level: Level,
+    pub next: Level,
+    pub plane: u16,
+    pub room: u16,
+}
 
 // The choice to go on from, and the relations there are.
 #[derive(Clone, Copy)]
@@ -32,32 +45,17 @@ pub struct Reached {
     pub count: u16,
 }
 
-// If so, the words from `at` on and those of another row from `there` on are the same, `count` of them.
-fn same_words(words: &[u32], at: usize, others: &[u32], there: usize, count: usize) -> bool
-    requires { (at + count ≤ length words.now) × (there + count ≤ length others.now) }
-    ensures { result ≡ true → (i : ℕ) → i < count → get_or words.now (at + i) 0 ≡ get_or others.now (there + i) 0 }
-{
-    let mut i: usize = 0;
-    while i < count {
-        if words[at + i] != others[there + i] {
-            return false;
-        }
-        i += 1;
-    }
-    true
-}
-
 // If so, one of the first q planes has the row's words from `at` on, `count` of them.
 fn stands(stack: &[u32], plane: u16, q: u16, row: &[u32], at: usize, count: usize) -> bool
     requires { (q * plane ≤ length stack.now) × (at + count ≤ plane) × (at + count ≤ length row.now) }
     ensures { result ≡ true → Stands stack.now plane q row.now at count }
 {
-    let mut j: u16 = 0;
-    while j < q {
-        if same_words(stack, cell(plane, j, at), row, at, count) {
+    for j in 0..q {
+        let start = cell(plane, j, at);
+        let same = stack[start..start + count] == row[at..at + count];
+        if same {
             return true;
         }
-        j += 1;
     }
     false
 }
@@ -78,157 +76,67 @@ pub fn join(stack: &mut [u32], plane: u16, q: u16, wide: u16, row: &[u32], level
 
 // One level down from the relation in `scratch` by choice d of the end set: the relation becomes plane q, unless it leads to no word or stands
 // there already. The planes there are then.
-fn take_choice(
-    rows: &[u16],
-    masks: &[u32],
-    first: &[u16],
-    endrows: &[u16],
-    endmasks: &[u32],
-    endfirst: &[u16],
-    stack: &mut [u32],
-    plane: u16,
-    q: u16,
-    wide: u16,
-    may: &[u32],
-    scratch: &mut [u32],
-    c: u8,
-    d: u8,
-    level: Level,
-    next: Level,
-) -> u16
-    requires { Ground rows.now masks.now first.now endrows.now endmasks.now endfirst.now wide plane (length may.now) (length scratch.old) level next × (q * plane + plane ≤ length stack.old) × (q < 65535) × (c < choices_most) × (d < choices_most) }
-    ensures { Grown rows.now masks.now first.now endrows.now endmasks.now endfirst.now c wide plane stack.old q (q + 1) scratch.old level next stack.new result × Kept wide scratch.old level.to scratch.new × Whole rows.now masks.now first.now endrows.now endmasks.now endfirst.now c wide plane may.now stack.old q scratch.old level next d (d + 1) stack.new result }
+fn take_choice(step: &Step, stack: &mut [u32], q: u16, scratch: &mut [u32], d: u8) -> u16
+    requires { GroundOn step.now (length scratch.old) × (q * step.now.plane + step.now.plane ≤ length stack.old) × (q < 65535) × (step.now.c < choices_most) × (d < choices_most) }
+    ensures { GrownOn step.now stack.old q (q + 1) scratch.old stack.new result × Kept step.now.sides.wide scratch.old step.now.level.to scratch.new × WholeOn step.now stack.old q scratch.old d (d + 1) stack.new result }
 {
-    if !step_down(
-        rows, masks, first, endrows, endmasks, endfirst, scratch, wide, c, d, level, next,
-    ) {
+    let goes = step_down(&step.sides, scratch, step.c, d, step.level, step.next);
+    if !goes {
         return q;
     }
-    if !all_may(may, scratch, wide, next) {
+    let apt = all_may(step.may, scratch, step.sides.wide, step.next);
+    if !apt {
         return q;
     }
-    join(stack, plane, q, wide, scratch, next)
+    join(stack, step.plane, q, step.sides.wide, scratch, step.next)
 }
 
 // The same by each choice from `from` on that all end states met in `scratch` have, while there is room.
-fn take_choices(
-    rows: &[u16],
-    masks: &[u32],
-    first: &[u16],
-    endrows: &[u16],
-    endmasks: &[u32],
-    endfirst: &[u16],
-    stack: &mut [u32],
-    plane: u16,
-    room: u16,
-    q: u16,
-    wide: u16,
-    may: &[u32],
-    scratch: &mut [u32],
-    c: u8,
-    from: u8,
-    level: Level,
-    next: Level,
-) -> Turn
-    requires { Ground rows.now masks.now first.now endrows.now endmasks.now endfirst.now wide plane (length may.now) (length scratch.old) level next × (room * plane ≤ length stack.old) × (q ≤ room) × (c < choices_most) × (from < choices_most) }
-    ensures { Took rows.now masks.now first.now endrows.now endmasks.now endfirst.now c wide plane may.now stack.old q room scratch.old level next from result.choice stack.new result.count }
+fn take_choices(step: &Step, stack: &mut [u32], q: u16, scratch: &mut [u32], from: u8) -> Turn
+    requires { GroundOn step.now (length scratch.old) × (step.now.room * step.now.plane ≤ length stack.old) × (q ≤ step.now.room) × (step.now.c < choices_most) × (from < choices_most) }
+    ensures { TookOn step.now stack.old q scratch.old from result.choice stack.new result.count }
 {
-    let shared = shared_choices(endmasks, endfirst, scratch, wide, level);
+    let shared = shared_choices(&step.sides, scratch, step.level);
     let mut r = q;
-    let mut d = next_choice(shared, from);
-    while (d < 32) & (r < room) {
-        r = take_choice(
-            rows, masks, first, endrows, endmasks, endfirst, stack, plane, r, wide, may, scratch,
-            c, d, level, next,
-        );
-        d = next_choice(shared, d + 1);
+    let mut start = from;
+    while let Some(d) = next_choice(shared, start) {
+        if r == step.room {
+            return Turn {
+                choice: d,
+                count: r,
+            };
+        }
+        r = take_choice(step, stack, r, scratch, d);
+        start = d + 1;
     }
     Turn {
-        choice: d,
+        choice: 32,
         count: r,
     }
 }
 
 // The same from relation k.
-fn take_from(
-    rows: &[u16],
-    masks: &[u32],
-    first: &[u16],
-    endrows: &[u16],
-    endmasks: &[u32],
-    endfirst: &[u16],
-    stack: &mut [u32],
-    plane: u16,
-    room: u16,
-    q: u16,
-    k: u16,
-    wide: u16,
-    may: &[u32],
-    scratch: &mut [u32],
-    c: u8,
-    from: u8,
-    level: Level,
-    next: Level,
-) -> Turn
-    requires { Ground rows.now masks.now first.now endrows.now endmasks.now endfirst.now wide plane (length may.now) (length scratch.old) level next × (room * plane ≤ length stack.old) × (q ≤ room) × (c < choices_most) × (from < choices_most) × (k < room) }
-    ensures { Took rows.now masks.now first.now endrows.now endmasks.now endfirst.now c wide plane may.now stack.old q room (plane_of plane stack.old k) level next from result.choice stack.new result.count }
+fn take_from(step: &Step, stack: &mut [u32], q: u16, k: u16, scratch: &mut [u32], from: u8) -> Turn
+    requires { GroundOn step.now (length scratch.old) × (step.now.room * step.now.plane ≤ length stack.old) × (q ≤ step.now.room) × (step.now.c < choices_most) × (from < choices_most) × (k < step.now.room) }
+    ensures { TookOn step.now stack.old q (plane_of step.now.plane stack.old k) from result.choice stack.new result.count }
 {
-    copy_out(stack, plane, k, wide, scratch, level);
-    take_choices(
-        rows, masks, first, endrows, endmasks, endfirst, stack, plane, room, q, wide, may, scratch,
-        c, from, level, next,
-    )
+    copy_out(stack, step.plane, k, step.sides.wide, scratch, step.level);
+    take_choices(step, stack, q, scratch, from)
 }
 
 // Relations of the next level from the first p relations of the level, by choice c of the image's word, from a place on: those that are there
 // when the room is full or no place is left, and the place to go on from.
-pub fn batch(
-    rows: &[u16],
-    masks: &[u32],
-    first: &[u16],
-    endrows: &[u16],
-    endmasks: &[u32],
-    endfirst: &[u16],
-    stack: &mut [u32],
-    plane: u16,
-    room: u16,
-    p: u16,
-    wide: u16,
-    may: &[u32],
-    scratch: &mut [u32],
-    c: u8,
-    from: u32,
-    level: Level,
-    next: Level,
-) -> Reached
-    requires { Ground rows.now masks.now first.now endrows.now endmasks.now endfirst.now wide plane (length may.now) (length scratch.old) level next × (room * plane ≤ length stack.old) × (p ≤ room) × (c < choices_most) }
-    ensures { Batched rows.now masks.now first.now endrows.now endmasks.now endfirst.now c wide plane may.now stack.old p room level next from result.place stack.new result.count }
+pub fn batch(step: &Step, stack: &mut [u32], p: u16, scratch: &mut [u32], from: u32) -> Reached
+    requires { GroundOn step.now (length scratch.old) × (step.now.room * step.now.plane ≤ length stack.old) × (p ≤ step.now.room) × (step.now.c < choices_most) }
+    ensures { BatchedOn step.now stack.old p from result.place stack.new result.count }
 {
     let all = p as u32 * 32;
     let mut q: u16 = 0;
     let mut place = from;
-    while (place < all) & (q < room) {
+    // A while: the place to go on from is what take_from says, and not the next one.
+    while (place < all) & (q < step.room) {
         let k = place / 32;
-        let turn = take_from(
-            rows,
-            masks,
-            first,
-            endrows,
-            endmasks,
-            endfirst,
-            stack,
-            plane,
-            room,
-            q,
-            k as u16,
-            wide,
-            may,
-            scratch,
-            c,
-            (place % 32) as u8,
-            level,
-            next,
-        );
+        let turn = take_from(step, stack, q, k as u16, scratch, (place % 32) as u8);
         place = k * 32 + turn.choice as u32;
         q = turn.count;
     }

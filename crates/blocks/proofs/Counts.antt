@@ -20,6 +20,10 @@ use Rattle.blocks.specs.Good.{all_of}
 abbrev pub gone_on : Tally → ℕ → Tally
 gone_on t k = record { kind = Going; count = t.count + k; root = t.root; word = t.word }
 
+-- the first, as the code says it: the kind is what it was
+pub as_gone : (t : Tally) (k : ℕ) → t.kind ≡ Going → record t { count = t.count + k } ≡ gone_on t k
+as_gone t k g = ap (λ (x : Kind). record { kind = x; count = t.count + k; root = t.root; word = t.word }) g
+
 abbrev pub used_up : Tally → ℕ → Tally
 used_up t k = record { kind = Undecided; count = k; root = t.root; word = t.word }
 

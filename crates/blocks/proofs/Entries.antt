@@ -21,6 +21,8 @@ use Rattle.matching.proofs.Turns.{one_less, leaf-stage, stage as pair-stage}
 use Rattle.reaching.specs.Reached.{Stage, Ended}
 use Rattle.relating.specs.Found.{found}
 use Rattle.batching.specs.Fill.{Ground, Low, Filled}
+use Rattle.std.specs.Prelude.{Option}
+use Rattle.remembering.specs.declared.Seen.{Seen}
 use Rattle.remembering.specs.Fits.{Fits}
 use Rattle.remembering.specs.Memory.{Memory}
 use Rattle.walking.specs.Walk.{passes_in}
@@ -37,12 +39,12 @@ pub starts-rise : (counts : List ℕ) (i : ℕ) → start_of counts i ≤ start_
 starts-rise counts i = omega (arith, start-next counts i)
 
 -- the same with buffers as long
-pub sized-again : {counts : List ℕ} {n wide plane room slots free met stack kept hints seen sizes turn met' stack' kept' hints' seen' sizes' turn' : ℕ} → met' ≡ met → stack' ≡ stack → kept' ≡ kept → hints' ≡ hints → seen' ≡ seen → sizes' ≡ sizes → turn' ≡ turn
-    → Sized counts n wide plane room slots free met stack kept hints seen sizes turn → Sized counts n wide plane room slots free met' stack' kept' hints' seen' sizes' turn'
-sized-again e₁ e₂ e₃ e₄ e₅ e₆ e₇ s = rw (e₁, e₂, e₃, e₄, e₅, e₆, e₇) s
+pub sized-again : {counts : List ℕ} {n wide plane room slots free met stack kept hints seen turn met' stack' kept' hints' seen' turn' : ℕ} → met' ≡ met → stack' ≡ stack → kept' ≡ kept → hints' ≡ hints → seen' ≡ seen → turn' ≡ turn
+    → Sized counts n wide plane room slots free met stack kept hints seen turn → Sized counts n wide plane room slots free met' stack' kept' hints' seen' turn'
+sized-again e₁ e₂ e₃ e₄ e₅ e₆ s = rw (e₁, e₂, e₃, e₄, e₅, e₆) s
 
-module _ {rows masks : List ℕ} {coefs : List ℤ} {counts first end_rows end_masks : List ℕ} {end_coefs : List ℤ} {end_counts end_first : List ℕ} {wide plane room slots n at m p : ℕ} {l : Level} {root : ℕ} {word stack seen sizes hints kept : List ℕ} {free may met turn cells : ℕ}
-    (t : Entered rows masks coefs counts first end_rows end_masks end_coefs end_counts end_first wide plane room slots n at m p l root word stack seen sizes hints kept free may met turn cells) where
+module _ {rows masks : List ℕ} {coefs : List ℤ} {counts first end_rows end_masks : List ℕ} {end_coefs : List ℤ} {end_counts end_first : List ℕ} {wide plane room slots n at m p : ℕ} {l : Level} {root : ℕ} {word stack : List ℕ} {seen : List (Option Seen)} {hints kept : List ℕ} {free may met turn cells : ℕ}
+    (t : Entered rows masks coefs counts first end_rows end_masks end_coefs end_counts end_first wide plane room slots n at m p l root word stack seen hints kept free may met turn cells) where
   pub entered-few : n ≤ 20
   entered-few = few-levels t.visiting.both
 
@@ -63,7 +65,7 @@ module _ {rows masks : List ℕ} {coefs : List ℤ} {counts first end_rows end_m
   choices_asked = (states-there t.visiting, level-celled t.visiting)
 
   -- for the look-up
-  pub block_fits : {row : List ℕ} → length row ≡ cells → Fits at l.from l.to p wide plane room row_cells slots row stack kept hints seen sizes
+  pub block_fits : {row : List ℕ} → length row ≡ cells → Fits at l.from l.to p wide plane room row_cells slots row stack kept hints seen
   block_fits e = record {
     level = omega (arith, at-few t.visiting);
     rising = level-rises;
@@ -74,13 +76,12 @@ module _ {rows masks : List ℕ} {coefs : List ℤ} {counts first end_rows end_m
     in_stack = t.sized.planes;
     in_kept = t.sized.in_kept;
     in_rows = t.sized.in_hints;
-    in_counts = t.sized.in_seen;
-    in_sizes = t.sized.in_sizes;
+    in_seen = t.sized.in_seen;
   }
 
   -- ---- the choice of the level
   pub entered-set : (c : ℕ) → c < choices_most → length word ≡ word_places
-      → Entered rows masks coefs counts first end_rows end_masks end_coefs end_counts end_first wide plane room slots n at m p l root (set word at c) stack seen sizes hints kept free may met turn cells
+      → Entered rows masks coefs counts first end_rows end_masks end_coefs end_counts end_first wide plane room slots n at m p l root (set word at c) stack seen hints kept free may met turn cells
   entered-set c lt long =
       let v = t.visiting in
       record {
@@ -100,16 +101,16 @@ module _ {rows masks : List ℕ} {coefs : List ℤ} {counts first end_rows end_m
       }
 
   -- ---- after some words of the block
-  pub entered-again : {stack' seen' sizes' hints' kept' : List ℕ} {may' met' turn' cells' : ℕ} → Low wide plane l stack stack'
-      → Memory wide plane room row_cells slots (start_of counts) (good rows masks coefs counts first end_rows end_masks end_coefs end_counts end_first wide plane n) seen' sizes' hints' kept'
-      → length stack' ≡ length stack → length seen' ≡ length seen → length sizes' ≡ length sizes → length hints' ≡ length hints → length kept' ≡ length kept
+  pub entered-again : {stack' : List ℕ} {seen' : List (Option Seen)} {hints' kept' : List ℕ} {may' met' turn' cells' : ℕ} → Low wide plane l stack stack'
+      → Memory wide plane room row_cells slots (start_of counts) (good rows masks coefs counts first end_rows end_masks end_coefs end_counts end_first wide plane n) seen' hints' kept'
+      → length stack' ≡ length stack → length seen' ≡ length seen → length hints' ≡ length hints → length kept' ≡ length kept
       → may' ≡ may → met' ≡ met → turn' ≡ turn → cells' ≡ cells
-      → Entered rows masks coefs counts first end_rows end_masks end_coefs end_counts end_first wide plane room slots n at m p l root word stack' seen' sizes' hints' kept' free may' met' turn' cells'
-  entered-again low memory e₁ e₂ e₃ e₄ e₅ e₆ e₇ e₈ e₉ =
+      → Entered rows masks coefs counts first end_rows end_masks end_coefs end_counts end_first wide plane room slots n at m p l root word stack' seen' hints' kept' free may' met' turn' cells'
+  entered-again low memory e₁ e₂ e₃ e₄ e₅ e₆ e₇ e₈ =
       record {
-        visiting = visit-again t.visiting e₆ e₉;
+        visiting = visit-again t.visiting e₅ e₈;
         here = t.here;
-        sized = sized-again e₇ e₁ e₅ e₄ e₂ e₃ e₈ t.sized;
+        sized = sized-again e₆ e₁ e₄ e₃ e₂ e₇ t.sized;
         few = t.few;
         path = path-kept t.path level-narrow level-long low;
         memory = memory;
@@ -179,7 +180,7 @@ module _ {rows masks : List ℕ} {coefs : List ℤ} {counts first end_rows end_m
 
       pub entered-down : {c q : ℕ} {stack' : List ℕ} {met' cells' : ℕ} → get_or word at 0 ≡ c → Filled rows masks first end_rows end_masks end_first c wide plane stack p room l next stack' q
           → length stack' ≡ length stack → met' ≡ met → cells' ≡ cells
-          → Entered rows masks coefs counts first end_rows end_masks end_coefs end_counts end_first wide plane room slots n (at + 1) (m - 1) q next root word stack' seen sizes hints kept free may met' turn cells'
+          → Entered rows masks coefs counts first end_rows end_masks end_coefs end_counts end_first wide plane room slots n (at + 1) (m - 1) q next root word stack' seen hints kept free may met' turn cells'
       entered-down letter f e₁ e₂ e₃ =
           let v = t.visiting in
           record {
@@ -192,7 +193,7 @@ module _ {rows masks : List ℕ} {coefs : List ℤ} {counts first end_rows end_m
               small = v.small;
             };
             here = is;
-            sized = sized-again e₂ e₁ refl refl refl refl refl t.sized;
+            sized = sized-again e₂ e₁ refl refl refl refl t.sized;
             few = f.few;
             path = path-down m some t.path letter f;
             memory = t.memory;

@@ -16,6 +16,8 @@ use Rattle.matching.proofs.LevelLaws.{start-zero, start-next}
 use Rattle.matching.proofs.Roots.{root_level, root_level_lem}
 use Rattle.relating.specs.Found.{found}
 use Rattle.relating.specs.Roots.{Rooted, Whole}
+use Rattle.std.specs.Prelude.{Option}
+use Rattle.remembering.specs.declared.Seen.{Seen}
 use Rattle.remembering.specs.Memory.{Memory}
 use Rattle.walking.proofs.Rooms.{start_up, both-again, visit_begins}
 use Rattle.blocks.specs.Good.{good}
@@ -25,17 +27,17 @@ use Rattle.blocks.proofs.Entries.{sized-again}
 roots-are : (cs : List ℕ) → get_or cs 0 0 ≡ start_of cs 1
 roots-are cs = omega (arith, start-zero cs, start-next cs 0)
 
-module _ {rows masks : List ℕ} {coefs : List ℤ} {counts first end_rows end_masks : List ℕ} {end_coefs : List ℤ} {end_counts end_first : List ℕ} {wide plane room slots n : ℕ} {seen sizes hints kept : List ℕ} {free may met stack turn cells : ℕ}
-    (g : Started rows masks coefs counts first end_rows end_masks end_coefs end_counts end_first wide plane room slots n seen sizes hints kept free may met stack turn cells) where
+module _ {rows masks : List ℕ} {coefs : List ℤ} {counts first end_rows end_masks : List ℕ} {end_coefs : List ℤ} {end_counts end_first : List ℕ} {wide plane room slots n : ℕ} {seen : List (Option Seen)} {hints kept : List ℕ} {free may met stack turn cells : ℕ}
+    (g : Started rows masks coefs counts first end_rows end_masks end_coefs end_counts end_first wide plane room slots n seen hints kept free may met stack turn cells) where
   -- the same after another root
-  pub started-again : {seen' sizes' hints' kept' : List ℕ} {may' met' stack' turn' cells' : ℕ}
-      → Memory wide plane room row_cells slots (start_of counts) (good rows masks coefs counts first end_rows end_masks end_coefs end_counts end_first wide plane n) seen' sizes' hints' kept'
-      → may' ≡ may → met' ≡ met → stack' ≡ stack → length kept' ≡ length kept → length hints' ≡ length hints → length seen' ≡ length seen → length sizes' ≡ length sizes → turn' ≡ turn → cells' ≡ cells
-      → Started rows masks coefs counts first end_rows end_masks end_coefs end_counts end_first wide plane room slots n seen' sizes' hints' kept' free may' met' stack' turn' cells'
-  started-again memory e₁ e₂ e₃ e₄ e₅ e₆ e₇ e₈ e₉ =
+  pub started-again : {seen' : List (Option Seen)} {hints' kept' : List ℕ} {may' met' stack' turn' cells' : ℕ}
+      → Memory wide plane room row_cells slots (start_of counts) (good rows masks coefs counts first end_rows end_masks end_coefs end_counts end_first wide plane n) seen' hints' kept'
+      → may' ≡ may → met' ≡ met → stack' ≡ stack → length kept' ≡ length kept → length hints' ≡ length hints → length seen' ≡ length seen → turn' ≡ turn → cells' ≡ cells
+      → Started rows masks coefs counts first end_rows end_masks end_coefs end_counts end_first wide plane room slots n seen' hints' kept' free may' met' stack' turn' cells'
+  started-again memory e₁ e₂ e₃ e₄ e₅ e₆ e₇ e₈ =
       record {
-        both = both-again g.both e₁ e₉;
-        sized = sized-again e₂ e₃ e₄ e₅ e₆ e₇ e₈ g.sized;
+        both = both-again g.both e₁ e₈;
+        sized = sized-again e₂ e₃ e₄ e₅ e₆ e₇ g.sized;
         memory = memory;
       }
 
@@ -55,12 +57,12 @@ module _ {rows masks : List ℕ} {coefs : List ℤ} {counts first end_rows end_m
     pub entered-first : {p : ℕ} {stack' : List ℕ} {met' cells' : ℕ} → p ≤ room
         → ((S E : Automaton ℕ) (word : List ℕ) (m : ℕ) → Whole word m → found S E word 0 m wide plane stack' p (root_level counts end_counts) ≡ true → searched S E (get_or end_counts 0 0) m (take (m + 1) word) root ≡ true)
         → length stack' ≡ stack → cells' ≡ cells → met' ≡ met
-        → Entered rows masks coefs counts first end_rows end_masks end_coefs end_counts end_first wide plane room slots n 0 n p (root_level counts end_counts) root (replicate word_places 0) stack' seen sizes hints kept free may met' turn cells'
+        → Entered rows masks coefs counts first end_rows end_masks end_coefs end_counts end_first wide plane room slots n 0 n p (root_level counts end_counts) root (replicate word_places 0) stack' seen hints kept free may met' turn cells'
     entered-first few sound e₁ e₂ e₃ =
         record {
           visiting = visit_begins (both-again g.both refl e₂) root lt;
           here = root_level_lem counts end_counts;
-          sized = sized-again e₃ e₁ refl refl refl refl refl g.sized;
+          sized = sized-again e₃ e₁ refl refl refl refl g.sized;
           few = few;
           path = record { each = λ w whole same f. sound (table_automaton rows masks coefs first) (table_automaton end_rows end_masks end_coefs end_first) w n whole f };
           memory = g.memory;

@@ -6,7 +6,9 @@ use native.Mathlib.Omega.{arith}
 use lib.IntN.{ℤ}
 use lib.ListN.{length, get_or, take}
 use lib.Seq.{get_or-take, length-take-le}
+use Rattle.automata.specs.Sets.{sum}
 use Rattle.automata.proofs.Lists.{Each}
+use Rattle.tables.specs.Slices.{Table}
 use Rattle.gates.specs.Gate.{Gate}
 use Rattle.gates.specs.Key.{L, R, Key, plain, shifted, inside, pair, stored}
 use Rattle.stepwise.specs.Code.{tag_in, first_in, second_in, KeyOf}
@@ -17,17 +19,17 @@ use Rattle.tablewise.proofs.TableSource.{rows-masked, rows-disjoint}
 use Rattle.tablewise.proofs.TableKeys.{states-keys}
 use Rattle.moving.specs.Moves.{Source}
 use Rattle.leveling.specs.Keyed.{Keyed}
+use Rattle.leveling.proofs.States.{key-rows}
 use Rattle.ending.specs.Source.{LeafState, LeafKey}
 use Rattle.building.specs.declared.Room.{Room}
 use Rattle.building.specs.Fresh.{Fresh}
 use Rattle.building.specs.Going.{Old, Lists, Going, Rest}
 use Rattle.ending.proofs.OldLeaves.{rows-rise, leaf_state}
 
-module _ {old oldmasks : List ℕ} {numbers : List ℤ} {first : List ℕ} {states k : ℕ} (t : Old old oldmasks numbers first states k) where
-  -- an old state's rows, as the levels of qubits are read
-  pub old_source : Source old oldmasks first states
+module _ {T : Table} {k : ℕ} (t : Old T k) where
+  -- an T.rows state's rows, as the levels of qubits are read
+  pub old_source : Source T.rows T.masks T.first (sum t.set.counts)
   old_source =
-      let all = t.all in
       record {
         first_there = omega (arith, t.roomy.begins);
         rises = λ q lt. rows-rise t.formed t.unpacked t.roomy q (omega arith);
@@ -39,12 +41,12 @@ module _ {old oldmasks : List ℕ} {numbers : List ℤ} {first : List ℕ} {stat
 
   -- and as the leaf level is
   abbrev Ends : ℕ → Type 0
-  Ends q = LeafState old oldmasks numbers first k q
+  Ends q = LeafState T.rows T.masks T.coefs T.first k q
 
   old_leaf : (q : ℕ) → OnLevel t.set (suc t.set.n) q → Ends q
-  old_leaf q on = subst (λ (j : ℕ). LeafState old oldmasks numbers first j q) (sym t.scale) (leaf_state t.formed t.unpacked t.roomy q on.0)
+  old_leaf q on = subst (λ (j : ℕ). LeafState T.rows T.masks T.coefs T.first j q) (sym t.scale) (leaf_state t.formed t.unpacked t.roomy q on.0)
 
-  one_end : (tag q : ℕ) → tag < 260 → (1 < tag → tag < 4 → ⊥) → OnLevel t.set (suc t.set.n) q → (x : ℕ) → tag_in x ≡ tag → first_in x ≡ q → LeafKey old oldmasks numbers first k x
+  one_end : (tag q : ℕ) → tag < 260 → (1 < tag → tag < 4 → ⊥) → OnLevel t.set (suc t.set.n) q → (x : ℕ) → tag_in x ≡ tag → first_in x ≡ q → LeafKey T.rows T.masks T.coefs T.first k x
   one_end tag q few single on x a b = record {
     tag = omega (arith, a);
     one = subst Ends (sym b) (old_leaf q on);
@@ -52,10 +54,10 @@ module _ {old oldmasks : List ℕ} {numbers : List ℤ} {first : List ℕ} {stat
   }
 
   two_ends : (tag q p : ℕ) → tag < 260 → OnLevel t.set (suc t.set.n) q → OnLevel t.set (suc t.set.n) p → (x : ℕ) → tag_in x ≡ tag → first_in x ≡ q → second_in x ≡ p
-      → LeafKey old oldmasks numbers first k x
+      → LeafKey T.rows T.masks T.coefs T.first k x
   two_ends tag q p few on in' x a b c = record { tag = omega (arith, a); one = subst Ends (sym b) (old_leaf q on); two = λ lo hi. subst Ends (sym c) (old_leaf p in') }
 
-  leaf_key : (x : Key) → Numbers (OnLevel t.set (suc t.set.n)) x → LeafKey old oldmasks numbers first k (stored x)
+  leaf_key : (x : Key) → Numbers (OnLevel t.set (suc t.set.n)) x → LeafKey T.rows T.masks T.coefs T.first k (stored x)
   leaf_key (plain q) h =
       let d = digits 0 q 0 h.1 (omega arith) in
       one_end 0 q (omega arith) (λ lo hi. omega arith) h (stored (plain q)) d.0 d.1
@@ -72,7 +74,7 @@ module _ {old oldmasks : List ℕ} {numbers : List ℤ} {first : List ℕ} {stat
       let d = digits 3 q p h.0.1 h.1.1 in
       two_ends 3 q p (omega arith) h.0 h.1 (stored (pair q p R)) d.0 d.1 d.2
 
-  leaf-each : (ks : List Key) → Each (Numbers (OnLevel t.set (suc t.set.n))) ks → Each (LeafKey old oldmasks numbers first k) (map stored ks)
+  leaf-each : (ks : List Key) → Each (Numbers (OnLevel t.set (suc t.set.n))) ks → Each (LeafKey T.rows T.masks T.coefs T.first k) (map stored ks)
   leaf-each [] h = tt
   leaf-each (x ∷ ks) h = (leaf_key x h.0, leaf-each ks h.1)
 
@@ -85,9 +87,8 @@ each_at P (x ∷ xs) (suc i) h lt = each_at P xs i h.1 (omega arith)
 each-front : (P : ℕ → Type 0) (cur : List ℕ) (count : ℕ) → count ≤ length cur → Each P (take count cur) → (i : ℕ) → i < count → P (get_or cur i 0)
 each-front P cur count le h i lt = subst P (get_or-take count cur i 0 lt) (each_at P (take count cur) i h (omega (arith, length-take-le count cur le)))
 
-module _ {old oldmasks : List ℕ} {numbers : List ℤ} {first : List ℕ} {states k : ℕ} {g : Gate} {level left : ℕ} {cur : List ℕ} {count : ℕ}
-    (go : Going old oldmasks numbers first states k g level left cur count) where
-  pub keyed : {next link heads : List ℕ} {most start : ℕ} → Lists cur next link heads most start → count ≤ most → 0 < left → Keyed states cur count start
+module _ {T : Table} {k : ℕ} {g : Gate} {level left : ℕ} {cur : List ℕ} {count : ℕ} (go : Going T k g level left cur count) where
+  pub keyed : {next link heads : List ℕ} {most start : ℕ} → Lists cur next link heads most start → count ≤ most → 0 < left → Keyed T cur count start
   keyed l few some =
       let t = go.table in
       let there : count ≤ length cur = omega (arith, l.here) in
@@ -95,17 +96,17 @@ module _ {old oldmasks : List ℕ} {numbers : List ℤ} {first : List ℕ} {stat
         there = there;
         each =
             λ j lt.
-            each-front (KeyOf states) cur count there
-            (subst (λ (n : ℕ). Each (KeyOf n) (take count cur)) (sym t.all) (states-keys t.few t.formed level (omega (arith, go.levels)) (take count cur) go.keys)) j lt;
+            key-rows (old_source t) (get_or cur j 0)
+            (each-front (KeyOf (sum t.set.counts)) cur count there (states-keys t.few t.formed level (omega (arith, go.levels)) (take count cur) go.keys) j lt);
         numbers = omega (arith, l.small);
       }
 
-  pub leaf-keys : count ≤ length cur → left ≡ 0 → (i : ℕ) → i < count → LeafKey old oldmasks numbers first k (get_or cur i 0)
+  pub leaf-keys : count ≤ length cur → left ≡ 0 → (i : ℕ) → i < count → LeafKey T.rows T.masks T.coefs T.first k (get_or cur i 0)
   leaf-keys there none i lt =
       let t = go.table in
       let last : level ≡ suc t.set.n = omega (arith, go.levels) in
       let e = subst (λ (j : ℕ). Each (Numbers (OnLevel t.set j)) go.keys.keys) last go.keys.each in
-      each-front (LeafKey old oldmasks numbers first k) cur count there (subst (Each (LeafKey old oldmasks numbers first k)) (sym go.keys.are) (leaf-each t go.keys.keys e)) i lt
+      each-front (LeafKey T.rows T.masks T.coefs T.first k) cur count there (subst (Each (LeafKey T.rows T.masks T.coefs T.first k)) (sym go.keys.are) (leaf-each t go.keys.keys e)) i lt
 
 pub fresh : {cur next link heads rows masks : List ℕ} {coefs : List ℤ} {counts : List ℕ} {left count start : ℕ} {room : Room} → Lists cur next link heads room.states start
     → Rest rows masks coefs counts left count room → Fresh rows masks next link heads (record { rows = room.inner; keys = room.states - count; base = start + count })

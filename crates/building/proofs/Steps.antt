@@ -1,14 +1,15 @@
 -- A level on top of the levels below it: what the slices hold once the rest, in which those stand, has come back. Assumes nothing.
-use mathlib.Core.Path.{◌≡◌, refl, sym, ap, ap₂, ◌∙◌}
+use mathlib.Core.Path.{◌≡◌, refl, sym, ap, ap₂, ◌∙◌, subst}
 use mathlib.Core.Bool.{true}
 use mathlib.Core.Logic.{inl, inr}
 use mathlib.Core.List.{List, [], ◌∷◌, ◌++◌}
-use Prim.Native.Nat.{ℕ, zero, suc, ◌+◌, ◌-◌, ◌*◌, ◌≤◌}
+use Prim.Native.Nat.{ℕ, zero, suc, ◌+◌, ◌-◌, ◌*◌, ◌<◌, ◌≤◌}
 use native.Mathlib.Omega.{arith}
 use lib.Dec.{eqb}
 use lib.IntN.{ℤ}
 use lib.ListN.{length, get_or, take, length-append}
 use borrow.Rule.Slice.PartMut.{put_mid}
+use Rattle.std.specs.Prelude.{Option, Some, None}
 use Rattle.automata.specs.Tree.{Automaton}
 use Rattle.automata.specs.Sets.{TR, LF, sum}
 use Rattle.stored.specs.Fields.{records_from}
@@ -19,9 +20,9 @@ use Rattle.stepwise.proofs.GrowLaws.{grown, all-keys}
 use Rattle.growing.specs.Growing.{Over}
 use Rattle.growing.specs.declared.Most.{Most}
 use borrow.Author.Tests.{eq-eqb}
-use Rattle.endrow.specs.Ended.{Lent, Ended}
+use Rattle.endrow.specs.Ended.{Lent, Added}
 use Rattle.endrow.specs.declared.Ending.{Ending}
-use Rattle.building.specs.Whole.{TooMany, Wide, Whole, on_levels}
+use Rattle.building.specs.Whole.{TooMany, Wide, Made, Whole, on_levels}
 use Rattle.building.specs.declared.Room.{Room}
 use Rattle.building.specs.declared.Outcome.{Outcome}
 use Rattle.building.proofs.Tails.{tail_back, trs_on, lfs_on, row-after}
@@ -58,64 +59,83 @@ less_room room w count = record { inner = room.inner - w; leaves = room.leaves; 
 
 module _ (rows masks counts : List ℕ) (room : Room) (w count k : ℕ) {rest mrest : List ℕ} {coefs : List ℤ} {crest : List ℕ} {r : Outcome} {ts : List TR} {B : Built}
     (are : tr_rows rows masks 0 w ≡ ts) (wide : k ≡ w * row_width) (there : k ≤ length rows) (long : w ≤ length masks) (first : take 1 counts ≡ count ∷ []) (some : 1 ≤ length counts)
-    (few : w ≤ room.inner) (few_states : count ≤ room.states) (b : Whole rest mrest coefs crest (less_room room w count) r B) where
+    (few : w ≤ room.inner) (few_states : count ≤ room.states) (b : Made rest mrest coefs crest (less_room room w count) r B) where
   many : length ts ≡ w
   many = ap length (sym are) ∙ rows-many rows masks 0 w
-
-  over : TooMany (less_room room w count) B → TooMany room (on_top count ts B)
-  over (inl h) = inl (omega (arith, length-append ts B.inner, many))
-  over (inr (inl h)) = inr (inl h)
-  over (inr (inr h)) = inr (inr (omega arith))
 
   levels : take (length B.counts) crest ≡ B.counts → take (suc (length B.counts)) (put_mid 1 (length counts - 1) counts crest) ≡ count ∷ B.counts
   levels e = ap (take (suc (length B.counts))) (tail_back counts crest 1 some ∙ ap (λ (l : List ℕ). l ++ crest) first) ∙ ap (λ (l : List ℕ). count ∷ l) e
 
-  pub on_top_lem : Whole (put_mid k (length rows - k) rows rest) (put_mid w (length masks - w) masks mrest) coefs (put_mid 1 (length counts - 1) counts crest) room (on_levels w count r) (on_top count ts B)
+  pub on_top_lem : Made (put_mid k (length rows - k) rows rest) (put_mid w (length masks - w) masks mrest) coefs (put_mid 1 (length counts - 1) counts crest) room (on_levels w count r) (on_top count ts B)
   on_top_lem = record {
-    inner = λ o. trs_on rows rest masks mrest w k wide there long r.inner ∙ ap₂ (λ (a c : List TR). a ++ c) are (b.inner o);
+    inner = trs_on rows rest masks mrest w k wide there long r.inner ∙ ap₂ (λ (a c : List TR). a ++ c) are b.inner;
     many_leaves = b.many_leaves;
-    levels = λ o. levels (b.levels o);
-    states = λ o. ap (λ (n : ℕ). count + n) (b.states o);
+    levels = levels b.levels;
+    states = ap (λ (n : ℕ). count + n) b.states;
     fitting = b.fitting;
-    leaves = λ o f. lfs_on rows rest masks mrest w k wide there long coefs r.inner r.leaves ∙ b.leaves o f;
+    leaves = λ f. lfs_on rows rest masks mrest w k wide there long coefs r.inner r.leaves ∙ b.leaves f;
     numbered =
-        λ o i lt.
+        λ i lt.
         (let e : (w + r.inner + i) * row_width + 1 ≡ (w + (r.inner + i)) * row_width + 1 = omega arith in
-        ap (λ (n : ℕ). get_or (put_mid k (length rows - k) rows rest) n 0) e ∙ row-after rows rest masks mrest w k wide there long (r.inner + i) 1 ∙ b.numbered o i lt);
-    inner_few = λ o. omega (arith, b.inner_few o);
+        ap (λ (n : ℕ). get_or (put_mid k (length rows - k) rows rest) n 0) e ∙ row-after rows rest masks mrest w k wide there long (r.inner + i) 1 ∙ b.numbered i lt);
+    inner_few = omega (arith, b.inner_few);
     leaves_few = b.leaves_few;
-    states_few = λ o. omega (arith, b.states_few o);
-    over = λ o. over (b.over o);
+    states_few = omega (arith, b.states_few);
   }
+
+-- levels that are too many for the rest are too many
+pub over_top : (rows masks : List ℕ) (room : Room) (w count : ℕ) (B : Built) {ts : List TR} → tr_rows rows masks 0 w ≡ ts → w ≤ room.inner → count ≤ room.states
+    → TooMany (less_room room w count) B → TooMany room (on_top count ts B)
+over_top rows masks room w count B {ts} are few few_states (inl h) = inl (omega (arith, length-append ts B.inner, ap length are, rows-many rows masks 0 w))
+over_top rows masks room w count B are few few_states (inr (inl h)) = inr (inl h)
+over_top rows masks room w count B are few few_states (inr (inr h)) = inr (inr (omega arith))
+
+-- levels that were built
+pub whole-made : {rows masks : List ℕ} {coefs : List ℤ} {counts : List ℕ} {room : Room} {r : Outcome} {B : Built} → Made rows masks coefs counts room r B → Whole rows masks coefs counts room (Some r) B
+whole-made {rows} {masks} {coefs} {counts} {room} {r} {B} h = record {
+  made = λ o e. let same : r ≡ o = cc in subst (λ (x : Outcome). Made rows masks coefs counts room x B) same h;
+  over = λ e. cc;
+}
+
+-- levels that are given up
+pub gave_up : {rows masks : List ℕ} {coefs : List ℤ} {counts : List ℕ} {room : Room} {B : Built} → TooMany room B → Whole rows masks coefs counts room None B
+gave_up h = record { made = λ o e. cc; over = λ e. h }
 
 -- ---- the leaf level
 abbrev pub no_leaf : Ending
-no_leaf = record { rows = 0; ok = true; fits = true }
+no_leaf = record { rows = 0; fits = true }
 
 pub may_end : {rows masks : List ℕ} {coefs : List ℤ} {room : Room} → Wide rows masks coefs room → Lent rows masks coefs room.leaves no_leaf
 may_end h = record {
   wide = omega (arith, h.wide);
   long = omega (arith, h.long);
   deep = h.deep;
-  ok = refl;
   within = omega arith;
   named = λ i lt. absurd (omega arith);
 }
 
-pub last_whole : {rows masks rows' masks' : List ℕ} {coefs coefs' : List ℤ} {room : Room} {e : Ending} {E : List LF} (count : ℕ) → count ≤ room.states
-    → Ended rows masks coefs no_leaf room.leaves E rows' masks' coefs' e → (counts : List ℕ) → take 1 counts ≡ count ∷ []
-    → Whole rows' masks' coefs' counts room (record { inner = 0; leaves = e.rows; states = count; ok = e.ok; fits = e.fits }) (record { counts = count ∷ []; inner = []; leaves = E })
-unfolding tr_rows lf_rows records_from
-last_whole {rows' = rows'} count few h counts c = record {
-  inner = λ o. refl;
-  many_leaves = λ o. omega (arith, h.many o);
-  levels = λ o. c;
-  states = λ o. omega arith;
-  fitting = λ o. h.fitting o;
-  leaves = λ o f. h.are o f;
-  numbered = λ o i lt. (let z : 0 + i ≡ i = omega arith in ap (λ (j : ℕ). get_or rows' (j * row_width + 1) 0) z ∙ (h.lent o).named i lt);
-  inner_few = λ o. omega arith;
-  leaves_few = λ o. (h.lent o).within;
-  states_few = λ o. few;
-  over = λ o. inr (inl (omega (arith, h.over o)));
-}
+module _ {rows masks rows' masks' : List ℕ} {coefs coefs' : List ℤ} {room : Room} {E : List LF} (count : ℕ) where
+  pub last_whole : {e : Ending} → count ≤ room.states → Added rows masks coefs no_leaf room.leaves E rows' masks' coefs' e → (counts : List ℕ) → take 1 counts ≡ count ∷ []
+      → Whole rows' masks' coefs' counts room (Some (record { inner = 0; leaves = e.rows; states = count; fits = e.fits })) (record { counts = count ∷ []; inner = []; leaves = E })
+  unfolding tr_rows lf_rows records_from
+  last_whole {e} few a counts c =
+      whole-made (record {
+        inner = refl;
+        many_leaves = omega (arith, a.many);
+        levels = c;
+        states = omega arith;
+        fitting = a.fitting;
+        leaves = a.are;
+        numbered = λ i lt. (let z : 0 + i ≡ i = omega arith in ap (λ (j : ℕ). get_or rows' (j * row_width + 1) 0) z ∙ a.lent.named i lt);
+        inner_few = omega arith;
+        leaves_few = a.lent.within;
+        states_few = few;
+      })
+
+pub last-over : {rows' masks' : List ℕ} {coefs' : List ℤ} {room : Room} {E : List LF} (count : ℕ) → room.leaves < 0 + length E → (counts : List ℕ) → Whole rows' masks' coefs' counts room None (record { counts = count ∷ []; inner = []; leaves = E })
+last-over count h counts = gave_up (inr (inl (omega (arith, h))))
+
+-- the same slices by another name
+pub whole-in : {rows rows' masks masks' : List ℕ} {coefs coefs' : List ℤ} {room : Room} {r : Option Outcome} {B : List ℕ → Built} {first : List ℕ} → rows' ≡ rows → masks' ≡ masks → coefs' ≡ coefs
+    → ((counts : List ℕ) → take 1 counts ≡ first → Whole rows masks coefs counts room r (B counts)) → (counts : List ℕ) → take 1 counts ≡ first → Whole rows' masks' coefs' counts room r (B counts)
+whole-in a b c h = rw (a, b, c) h

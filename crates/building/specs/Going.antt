@@ -6,22 +6,21 @@ use Rattle.stored.proofs.WellFormed.{WellFormed}
 use Rattle.gates.specs.Gate.{Gate}
 use Rattle.gates.specs.Key.{radix}
 use Rattle.tables.specs.Table.{row_width, leaf_width}
-use Rattle.tables.specs.Ready.{Roomy, Unpacked}
+use Rattle.tables.specs.Slices.{Table, RoomyOn, UnpackedOn}
+use Rattle.names.specs.declared.Names.{Names}
 use Rattle.stepwise.proofs.StoredLaws.{Light}
 use Rattle.tablewise.proofs.TableKeys.{StatesOf}
 use Rattle.building.specs.declared.Room.{Room}
 use Rattle.building.specs.Whole.{Wide}
 
--- the slices hold a well-formed set with so many states, at k
-pub record Old (old oldmasks : List ℕ) (numbers : List ℤ) (first : List ℕ) (states k : ℕ) : Type 0 where
+-- the table holds a well-formed set, at k
+pub record Old (T : Table) (k : ℕ) : Type 0 where
   pub set : QSet
   pub bounds : Bounds
   pub few : bounds.states < radix
   pub formed : WellFormed bounds set
-  pub counts : List ℕ
-  pub unpacked : Unpacked old oldmasks numbers counts first set
-  pub roomy : Roomy old oldmasks numbers counts first set.n (sum set.counts) (length set.inner) (length set.leaves)
-  pub all : states ≡ sum set.counts
+  pub unpacked : UnpackedOn T set
+  pub roomy : RoomyOn T set.n (sum set.counts) (length set.inner) (length set.leaves)
   pub scale : k ≡ set.k
 
 -- lists of keys and chains with room for so many states and two more, whose numbers from `start` on fit 16 bits
@@ -32,9 +31,13 @@ pub record Lists (cur next link heads : List ℕ) (states start : ℕ) : Type 0 
   pub buckets : 0 < length heads
   pub small : start + states + 2 < 65536
 
+-- the same, of the struct that lends keys and chains
+abbrev pub ListsIn : List ℕ → Names → ℕ → ℕ → Type 0
+ListsIn cur n states start = Lists cur n.keys.now n.link.now n.heads.now states start
+
 -- the first `count` keys are those of this level, and `left` levels of qubits are still to come
-pub record Going (old oldmasks : List ℕ) (numbers : List ℤ) (first : List ℕ) (states k : ℕ) (g : Gate) (level left : ℕ) (cur : List ℕ) (count : ℕ) : Type 0 where
-  pub table : Old old oldmasks numbers first states k
+pub record Going (T : Table) (k : ℕ) (g : Gate) (level left : ℕ) (cur : List ℕ) (count : ℕ) : Type 0 where
+  pub table : Old T k
   pub light : Light g
   pub levels : level + left ≡ suc table.set.n
   pub keys : StatesOf table.set level (take count cur)

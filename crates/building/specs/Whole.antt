@@ -1,5 +1,5 @@
 -- Document 01, "What each gate builds": the levels of a gate's result from one level on, in lent slices whose rest is still to be written.
-use Rattle.std.specs.Prelude.{◌≡◌, true, false, ◌⊎◌, List, ℕ, ◌+◌, ◌-◌, ◌*◌, ◌<◌, ◌≤◌, ℤ, length, get_or, take}
+use Rattle.std.specs.Prelude.{◌≡◌, true, ◌⊎◌, List, ℕ, ◌+◌, ◌-◌, ◌*◌, ◌<◌, ◌≤◌, ℤ, length, get_or, take, Option, Some, None}
 use borrow.Rule.Slice.PartMut.{put_mid}
 use Rattle.automata.specs.Sets.{sum}
 use Rattle.stored.specs.Rules.{passes}
@@ -19,24 +19,28 @@ pub record Wide (rows masks : List ℕ) (coefs : List ℤ) (room : Room) : Type 
   pub long : room.inner + room.leaves ≤ length masks
   pub deep : room.leaves * leaf_width ≤ length coefs
 
--- after the levels were to be built: they stand at the front of the slices, or they are too many. Leaves with a coefficient out of its range are
--- counted, and what stands in the slices then does not matter
-pub record Whole (rows masks : List ℕ) (coefs : List ℤ) (counts : List ℕ) (room : Room) (r : Outcome) (B : Built) : Type 0 where
-  pub inner : r.ok ≡ true → tr_rows rows masks 0 r.inner ≡ B.inner
-  pub many_leaves : r.ok ≡ true → r.leaves ≡ length B.leaves
-  pub levels : r.ok ≡ true → take (length B.counts) counts ≡ B.counts
-  pub states : r.ok ≡ true → r.states ≡ sum B.counts
-  pub fitting : r.ok ≡ true → r.fits ≡ passes leaf_fits B.leaves
-  pub leaves : r.ok ≡ true → r.fits ≡ true → lf_rows rows masks coefs r.inner r.leaves ≡ B.leaves
-  pub numbered : r.ok ≡ true → (i : ℕ) → i < r.leaves → get_or rows ((r.inner + i) * row_width + 1) 0 ≡ i
-  pub inner_few : r.ok ≡ true → r.inner ≤ room.inner
-  pub leaves_few : r.ok ≡ true → r.leaves ≤ room.leaves
-  pub states_few : r.ok ≡ true → r.states ≤ room.states
-  pub over : r.ok ≡ false → TooMany room B
+-- levels that were built: they stand at the front of the slices, within the room. Leaves with a coefficient out of its range are counted, and what
+-- stands in the slices then does not matter
+pub record Made (rows masks : List ℕ) (coefs : List ℤ) (counts : List ℕ) (room : Room) (r : Outcome) (B : Built) : Type 0 where
+  pub inner : tr_rows rows masks 0 r.inner ≡ B.inner
+  pub many_leaves : r.leaves ≡ length B.leaves
+  pub levels : take (length B.counts) counts ≡ B.counts
+  pub states : r.states ≡ sum B.counts
+  pub fitting : r.fits ≡ passes leaf_fits B.leaves
+  pub leaves : r.fits ≡ true → lf_rows rows masks coefs r.inner r.leaves ≡ B.leaves
+  pub numbered : (i : ℕ) → i < r.leaves → get_or rows ((r.inner + i) * row_width + 1) 0 ≡ i
+  pub inner_few : r.inner ≤ room.inner
+  pub leaves_few : r.leaves ≤ room.leaves
+  pub states_few : r.states ≤ room.states
+
+-- after the levels were to be built: they were, or they are too many
+pub record Whole (rows masks : List ℕ) (coefs : List ℤ) (counts : List ℕ) (room : Room) (r : Option Outcome) (B : Built) : Type 0 where
+  pub made : (o : Outcome) → r ≡ Some o → Made rows masks coefs counts room o B
+  pub over : r ≡ None → TooMany room B
 
 -- after the levels below were to be built into the rest of the slices, past w rows and one count: the rest is as `Whole` says, and what stands
 -- before it is as it was
-pub record Below (rows masks counts rows' masks' : List ℕ) (coefs' : List ℤ) (counts' : List ℕ) (w : ℕ) (room : Room) (r : Outcome) (B : Built) : Type 0 where
+pub record Below (rows masks counts rows' masks' : List ℕ) (coefs' : List ℤ) (counts' : List ℕ) (w : ℕ) (room : Room) (r : Option Outcome) (B : Built) : Type 0 where
   pub rest : List ℕ
   pub mrest : List ℕ
   pub crest : List ℕ
@@ -47,4 +51,4 @@ pub record Below (rows masks counts rows' masks' : List ℕ) (coefs' : List ℤ)
 
 -- a level of w rows and `count` states on top of the levels below it
 abbrev pub on_levels : ℕ → ℕ → Outcome → Outcome
-on_levels w count r = record { inner = w + r.inner; leaves = r.leaves; states = count + r.states; ok = r.ok; fits = r.fits }
+on_levels w count r = record { inner = w + r.inner; leaves = r.leaves; states = count + r.states; fits = r.fits }

@@ -10,7 +10,6 @@ use Rattle.stored.specs.Refusal.{good}
 use Rattle.gates.specs.Gate.{H, Gate, plain}
 use Rattle.gates.specs.Circuit.{gt_size, gate_at, judge_circuit, judge_one}
 use Rattle.gates.proofs.Fits.{Fits, AllFit, circuit_fits, one-fits}
-use Rattle.circuits.proofs.Answers.{answer_tells}
 use Rattle.circuitfile.proofs.Gates.{Gates, circuit_gates, one-gate}
 use Rattle.applying.proofs.ReadGates.{read_light}
 use Rattle.carrying.specs.Carried.{Readable, gates_from}
@@ -42,7 +41,7 @@ pub record Sound (n : ℕ) (s : List ℕ) (gs : List Gate) : Type 0 where
 sound : {n : ℕ} {s : List ℕ} {gs : List Gate} → Gates n s gs → AllFit n gs → Sound n s gs
 sound {n} {s} {gs} g f =
     let is : (i : ℕ) → i < length gs → gate_at n s (0 + i * gt_size) ≡ some (get_or gs i nothing) =
-    (λ i lt. let e : 0 + i * gt_size ≡ i * gt_size = omega arith in ap (gate_at n s) e ∙ answer_tells (gate_at n s (i * gt_size)) (some (get_or gs i nothing)) (g.answers i nothing lt)) in
+    (λ i lt. let e : 0 + i * gt_size ≡ i * gt_size = omega arith in ap (gate_at n s) e ∙ g.answers i nothing lt) in
     record {
       readable = record {
         there = omega (arith, g.whole);

@@ -1,17 +1,15 @@
 -- Turn by turn: the set so far, carried through the gates that are left, comes to what all gates make of the first set. Assumes nothing.
 use mathlib.Core.Path.{◌≡◌, refl, sym, ap, ◌∙◌, subst}
-use mathlib.Core.Bool.{Bool, true, false, false≢true, cond, not, ◌&&◌}
+use mathlib.Core.Bool.{Bool, true, false, false≢true, not}
 use mathlib.Core.List.{List, ◌∷◌}
 use mathlib.Core.Option.{Option, some}
 use Prim.Native.Nat.{ℕ, suc, ◌+◌, ◌-◌, ◌*◌, ◌<◌, ◌≤◌}
 use native.Mathlib.Omega.{arith}
-use lib.Dec.{eqb}
 use lib.ListN.{length}
-use borrow.Author.Tests.{eqb-true, eqb-false, not-true}
-use Rattle.amplitude.proofs.Equal.{both}
+use Rattle.std.specs.Prelude.{Ok, Err}
 use Rattle.automata.specs.Sets.{QSet}
 use Rattle.stored.specs.Fields.{records_from}
-use Rattle.stored.specs.Refusal.{Judged, refused, good, refusal, on_good}
+use Rattle.stored.specs.Refusal.{Judged, good, on_good}
 use Rattle.stored.specs.Rules.{Bounds}
 use Rattle.gates.specs.Gate.{Gate}
 use Rattle.gates.specs.Circuit.{gt_size, gate_at, somes}
@@ -19,21 +17,24 @@ use Rattle.gates.specs.Refuse.{judge_gate, after_gates}
 use Rattle.gates.proofs.Fits.{Fits}
 use Rattle.gates.proofs.Demand2.{n_kept}
 use Rattle.gates.proofs.WellBuilt.{judged-gate}
+use Rattle.refusals.specs.declared.Refusal.{Refusal}
+use Rattle.refusals.specs.Refused.{judged, seen}
 use Rattle.stepwise.proofs.StoredLaws.{Light}
 use Rattle.setfile.specs.declared.Form.{Form}
 use Rattle.building.specs.declared.Room.{Room}
-use Rattle.building.specs.Going.{Lists}
+use Rattle.names.specs.declared.Names.{Names}
+use Rattle.tables.specs.Slices.{SameLengths}
+use Rattle.growing.specs.Growing.{SameNames}
+use Rattle.building.specs.Going.{ListsIn}
 use Rattle.standing.specs.Standing.{form_of}
-use Rattle.settling.specs.declared.GateResult.{GateResult}
-use Rattle.settling.specs.Result.{bounds_from, result_of, next_of}
+use Rattle.settling.specs.declared.Image.{Image}
+use Rattle.settling.specs.Result.{bounds_from, next_image}
+use Rattle.settling.proofs.Results.{made-good, refused-told}
 use Rattle.standing.proofs.StandingLaws.{set-n}
 use Rattle.applying.proofs.OneGate.{lent_on}
-use Rattle.settling.specs.declared.Carry.{Carry}
 use Rattle.standing.specs.Tables.{Table, holder, other, set_on, StandsOn, StandsIn, HoldingOn}
 use Rattle.settling.specs.Standing.{LentOn}
-use Rattle.spots.specs.declared.Spot.{Spot}
-use Rattle.spots.specs.Spots.{next_spot}
-use Rattle.carrying.specs.Carried.{GateThere, Readable, gates_from, judged_in, Carried}
+use Rattle.carrying.specs.Carried.{GateThere, Readable, gates_from, Carried}
 
 -- ---- the records that are left
 pub here : {n : ℕ} {s : List ℕ} {at count : ℕ} → Readable n s at count → 0 < count → (at + gt_size ≤ length s) × GateThere n s at
@@ -60,168 +61,94 @@ gate-ready {n} {s} {at} t g e =
     only h = cc
 
 -- ---- one gate
-module _ (T U : Table) (b : Bounds) (c : Carry) (j : Judged QSet) {x : GateResult} (is : x ≡ result_of j) (table : (N : QSet) → j ≡ good N → HoldingOn (other c.second T U) N b) where
-  stands-other : (second : Bool) (N : QSet) → HoldingOn (other second T U) N b → StandsIn (not second) T U (form_of N) b
-  stands-other true N h = record { one = λ e. h.stands; two = λ e. absurd (false≢true e) }
-  stands-other false N h = record { one = λ e. absurd (false≢true (sym e)); two = λ e. h.stands }
+-- the set that a gate made stands in the other table
+stands-other : (T U : Table) (b : Bounds) (second : Bool) (N : QSet) → HoldingOn (other second T U) N b → StandsIn (not second) T U (form_of N) b
+stands-other T U b true N h = record { one = λ e. h.stands; two = λ e. absurd (false≢true e) }
+stands-other T U b false N h = record { one = λ e. absurd (false≢true (sym e)); two = λ e. h.stands }
 
-  set_other : (second : Bool) (N : QSet) → HoldingOn (other second T U) N b → set_on (form_of N) (holder (not second) T U) ≡ N
-  set_other true N h = h.is
-  set_other false N h = h.is
-
-  next-judged : judged_in (next_of c x) T U ≡ j
-  next-judged = ap (λ (y : GateResult). judged_in (next_of c y) T U) is ∙ go j refl
-    where
-      go : (i : Judged QSet) → j ≡ i → judged_in (next_of c (result_of i)) T U ≡ i
-      go (refused r) e = refl
-      go (good N) e = ap good (set_other c.second N (table N e))
-
-  next-stands : (next_of c x).ok ≡ true → StandsIn (next_of c x).second T U (next_of c x).form b
-  next-stands = subst (λ (y : GateResult). (next_of c y).ok ≡ true → StandsIn (next_of c y).second T U (next_of c y).form b) (sym is) (go j refl)
-    where
-      go : (i : Judged QSet) → j ≡ i → (next_of c (result_of i)).ok ≡ true → StandsIn (next_of c (result_of i)).second T U (next_of c (result_of i)).form b
-      go (refused r) e o = absurd (false≢true o)
-      go (good N) e o = stands-other c.second N (table N e)
-
-  next-form : (n : ℕ) → c.form.n ≡ n → ((N : QSet) → j ≡ good N → N.n ≡ n) → (next_of c x).form.n ≡ n
-  next-form n k f = subst (λ (y : GateResult). (next_of c y).form.n ≡ n) (sym is) (go j refl)
-    where
-      go : (i : Judged QSet) → j ≡ i → (next_of c (result_of i)).form.n ≡ n
-      go (refused r) e = k
-      go (good N) e = f N e
+set_other : (T U : Table) (b : Bounds) (second : Bool) (N : QSet) → HoldingOn (other second T U) N b → set_on (form_of N) (holder (not second) T U) ≡ N
+set_other T U b true N h = h.is
+set_other T U b false N h = h.is
 
 -- ---- slices of the same lengths
-pub record SameLong (T' T : Table) : Type 0 where
-  pub rows_long : length T'.rows ≡ length T.rows
-  pub masks_long : length T'.masks ≡ length T.masks
-  pub coefs_long : length T'.coefs ≡ length T.coefs
-  pub counts_long : length T'.counts ≡ length T.counts
-  pub first_long : length T'.first ≡ length T.first
+pub same-long : {T : Table} → SameLengths T T
+same-long = record { rows = refl; masks = refl; coefs = refl; counts = refl; first = refl }
 
-pub long-by : {T' T : Table} → length T'.rows ≡ length T.rows → length T'.masks ≡ length T.masks → length T'.coefs ≡ length T.coefs → length T'.counts ≡ length T.counts
-    → length T'.first ≡ length T.first → SameLong T' T
-long-by r m c n f = record { rows_long = r; masks_long = m; coefs_long = c; counts_long = n; first_long = f }
+pub long_on : {T T' T'' : Table} → SameLengths T T' → SameLengths T' T'' → SameLengths T T''
+long_on k h = record { rows = h.rows ∙ k.rows; masks = h.masks ∙ k.masks; coefs = h.coefs ∙ k.coefs; counts = h.counts ∙ k.counts; first = h.first ∙ k.first }
 
-pub same-long : {T : Table} → SameLong T T
-same-long = record { rows_long = refl; masks_long = refl; coefs_long = refl; counts_long = refl; first_long = refl }
-
-pub long_on : {T'' T' T : Table} → SameLong T'' T' → SameLong T' T → SameLong T'' T
-long_on h k = record {
-  rows_long = h.rows_long ∙ k.rows_long;
-  masks_long = h.masks_long ∙ k.masks_long;
-  coefs_long = h.coefs_long ∙ k.coefs_long;
-  counts_long = h.counts_long ∙ k.counts_long;
-  first_long = h.first_long ∙ k.first_long;
-}
-
-lent-long : {T' T : Table} {n : ℕ} {room : Room} → SameLong T' T → LentOn T n room → LentOn T' n room
-lent-long h l = lent_on l h.rows_long h.masks_long h.coefs_long h.counts_long h.first_long
+lent-long : {T T' : Table} {n : ℕ} {room : Room} → SameLengths T T' → LentOn T n room → LentOn T' n room
+lent-long h l = lent_on l h.rows h.masks h.coefs h.counts h.first
 
 -- the same of the lists
-pub record SameLists (cur' next' link' heads' cur next link heads : List ℕ) : Type 0 where
-  pub cur_long : length cur' ≡ length cur
-  pub next_long : length next' ≡ length next
-  pub link_long : length link' ≡ length link
-  pub heads_long : length heads' ≡ length heads
+pub same_names : {n : Names} → SameNames n n
+same_names = record { keys_long = refl; link_long = refl; heads_long = refl }
 
-pub lists-by : {cur' next' link' heads' cur next link heads : List ℕ} → length cur' ≡ length cur → length next' ≡ length next → length link' ≡ length link → length heads' ≡ length heads
-    → SameLists cur' next' link' heads' cur next link heads
-lists-by c n l h = record { cur_long = c; next_long = n; link_long = l; heads_long = h }
+pub names_on : {n n' n'' : Names} → SameNames n n' → SameNames n' n'' → SameNames n n''
+names_on k h = record { keys_long = h.keys_long ∙ k.keys_long; link_long = h.link_long ∙ k.link_long; heads_long = h.heads_long ∙ k.heads_long }
 
-pub same_lists : {cur next link heads : List ℕ} → SameLists cur next link heads cur next link heads
-same_lists = record { cur_long = refl; next_long = refl; link_long = refl; heads_long = refl }
-
-pub lists_on : {cur'' next'' link'' heads'' cur' next' link' heads' cur next link heads : List ℕ} → SameLists cur'' next'' link'' heads'' cur' next' link' heads'
-    → SameLists cur' next' link' heads' cur next link heads → SameLists cur'' next'' link'' heads'' cur next link heads
-lists_on h k = record { cur_long = h.cur_long ∙ k.cur_long; next_long = h.next_long ∙ k.next_long; link_long = h.link_long ∙ k.link_long; heads_long = h.heads_long ∙ k.heads_long }
-
-lists-long : {cur' next' link' heads' cur next link heads : List ℕ} {states start : ℕ} → SameLists cur' next' link' heads' cur next link heads → Lists cur next link heads states start
-    → Lists cur' next' link' heads' states start
-lists-long h l = record {
-  here = omega (arith, l.here, h.cur_long);
-  there = omega (arith, l.there, h.next_long);
+lists-long : {cur cur' : List ℕ} {n n' : Names} {states start : ℕ} → length cur' ≡ length cur → SameNames n n' → ListsIn cur n states start → ListsIn cur' n' states start
+lists-long c h l = record {
+  here = omega (arith, l.here, c);
+  there = omega (arith, l.there, h.keys_long);
   links = omega (arith, l.links, h.link_long);
   buckets = omega (arith, l.buckets, h.heads_long);
   small = l.small;
 }
 
 -- ---- before each turn
-pub record Going (n : ℕ) (s : List ℕ) (room : Room) (T U : Table) (cur next link heads : List ℕ) (c : Carry) (left at place : ℕ) (J : Judged QSet) : Type 0 where
-  pub comes : on_good (judged_in c T U) (after_gates (bounds_from room) place (gates_from n s at left)) ≡ J
-  pub stands : c.ok ≡ true → StandsIn c.second T U c.form (bounds_from room)
+pub record Going (n : ℕ) (s : List ℕ) (room : Room) (T U : Table) (cur : List ℕ) (names : Names) (c : Image) (left at place : ℕ) (J : Judged QSet) : Type 0 where
+  pub comes : after_gates (bounds_from room) place (gates_from n s at left) (set_on c.form (holder c.second T U)) ≡ J
+  pub stands : StandsIn c.second T U c.form (bounds_from room)
   pub qubits : c.form.n ≡ n
   pub readable : Readable n s at left
-  pub few : place + left < 65537
-  pub lists : Lists cur next link heads room.states 0
+  pub lists : ListsIn cur names room.states 0
   pub one : LentOn T n room
   pub two : LentOn U n room
 
--- at the spot that a step leads to
-pub at_spot : {n : ℕ} {s : List ℕ} {room : Room} {T U : Table} {cur next link heads : List ℕ} {c : Carry} {J : Judged QSet} {z w : Spot} → z ≡ w
-    → Going n s room T U cur next link heads c w.left w.at w.place J → Going n s room T U cur next link heads c z.left z.at z.place J
-at_spot {n} {s} {room} {T} {U} {cur} {next} {link} {heads} {c} {J} e go =
-    subst (λ (v : Spot). Going n s room T U cur next link heads c v.left v.at v.place J) (sym e) go
-
-pub spot_less : (z : Spot) {w : Spot} → w ≡ next_spot z → 0 < z.left → w.left < z.left
-spot_less z e more = subst (λ (v : Spot). v.left < z.left) (sym e) (omega arith)
-
--- the loop's test
-pub goes_on : (left : ℕ) (ok : Bool) → not (eqb left 0) && ok ≡ true → (0 < left) × (ok ≡ true)
-goes_on left ok e =
-    let p = both (not (eqb left 0)) ok e in
-    (omega (arith, eqb-false left 0 (not-true (eqb left 0) p.0)), p.1)
-
-pub stopped : (left : ℕ) (ok : Bool) → not (eqb left 0) && ok ≡ false → ok ≡ true → left ≡ 0
-stopped left ok e o = go (eqb left 0) refl
-  where
-    go : (z : Bool) → eqb left 0 ≡ z → left ≡ 0
-    go true h = eqb-true left 0 h
-    go false h = absurd (false≢true (sym e ∙ rw (h, o)))
-
-abbrev pub starting : Form → Carry
-starting f = record { form = f; second = false; ok = true; refusal = record { number = 0; source = 0; place = 0 } }
-
-pub begins : {s : List ℕ} {room : Room} {T U : Table} {cur next link heads : List ℕ} {count : ℕ} {f : Form} → count < 65536 → Readable f.n s 0 count → StandsOn T f (bounds_from room)
-    → Lists cur next link heads room.states 0 → LentOn T f.n room → LentOn U f.n room
-    → Going f.n s room T U cur next link heads (starting f) count 0 1 (after_gates (bounds_from room) 1 (gates_from f.n s 0 count) (set_on f T))
-begins small r st l one two = record {
+pub begins : {s : List ℕ} {room : Room} {T U : Table} {cur : List ℕ} {names : Names} {count : ℕ} {f : Form} → Readable f.n s 0 count → StandsOn T f (bounds_from room)
+    → ListsIn cur names room.states 0 → LentOn T f.n room → LentOn U f.n room
+    → Going f.n s room T U cur names (record { form = f; second = false }) count 0 1 (after_gates (bounds_from room) 1 (gates_from f.n s 0 count) (set_on f T))
+begins r st l one two = record {
   comes = refl;
-  stands = λ o. record { one = λ e. st; two = λ e. absurd (false≢true e) };
+  stands = record { one = λ e. st; two = λ e. absurd (false≢true e) };
   qubits = refl;
   readable = r;
-  few = omega arith;
   lists = l;
   one = one;
   two = two;
 }
 
-module _ {n : ℕ} {s : List ℕ} {room : Room} {T U : Table} {cur next link heads : List ℕ} {c : Carry} {left at place : ℕ} {J : Judged QSet}
-    (go : Going n s room T U cur next link heads c left at place J) where
+-- with the counts of another way to say the same
+pub at_spot : {n : ℕ} {s : List ℕ} {room : Room} {T U : Table} {cur : List ℕ} {names : Names} {c : Image} {J : Judged QSet} (left at place left' at' place' : ℕ) → left ≡ left' → at ≡ at' → place ≡ place'
+    → Going n s room T U cur names c left at place J → Going n s room T U cur names c left' at' place' J
+at_spot {n} {s} {room} {T} {U} {cur} {names} {c} {J} left at place left' at' place' l a p go =
+    subst (λ (z : ℕ). Going n s room T U cur names c left' at' z J) p
+    (subst (λ (z : ℕ). Going n s room T U cur names c left' z place J) a
+    (subst (λ (z : ℕ). Going n s room T U cur names c z at place J) l go))
+
+module _ {n : ℕ} {s : List ℕ} {room : Room} {T U : Table} {cur : List ℕ} {names : Names} {c : Image} {left at place : ℕ} {J : Judged QSet}
+    (go : Going n s room T U cur names c left at place J) where
   abbrev b : Bounds
   b = bounds_from room
 
-  -- where no gate is left, or one was refused
-  none_left : left ≡ 0 → (Q : QSet) → after_gates b place (gates_from n s at left) Q ≡ good Q
+  -- where no gate is left
+  pub ends : left ≡ 0 → Carried n T U (Ok c) b J
   unfolding after_gates records_from
-  none_left e Q = ap (λ (m : ℕ). after_gates b place (gates_from n s at m) Q) e
-
-  pub ends : (c.ok ≡ true → left ≡ 0) → Carried n T U c b J
-  ends last = record { judged = at-end c.ok refl go.comes; stands = go.stands; qubits = go.qubits }
-    where
-      at-end : (o : Bool) → c.ok ≡ o
-          → on_good (cond o (good (set_on c.form (holder c.second T U))) (refused (refusal c.refusal.number c.refusal.source c.refusal.place))) (after_gates b place (gates_from n s at left)) ≡ J
-          → judged_in c T U ≡ J
-      at-end true o e = rw o (sym (none_left (last o) (set_on c.form (holder c.second T U))) ∙ e)
-      at-end false o e = rw o e
+  ends none = record {
+    judged_is = sym (ap (λ (m : ℕ). after_gates b place (gates_from n s at m) (set_on c.form (holder c.second T U))) none) ∙ go.comes;
+    stands = λ i e. (let same : c ≡ i = cc in subst (λ (z : Image). StandsIn z.second T U z.form b) same go.stands);
+    qubits = λ i e. (let same : c ≡ i = cc in subst (λ (z : Image). z.form.n ≡ n) same go.qubits);
+  }
 
   -- what a turn asks
-  pub may_turn : c.ok ≡ true → 0 < left → (g : Gate) → gate_at n s at ≡ some g
-      → StandsIn c.second T U c.form b × (Light g × Fits c.form.n g) × Lists cur next link heads room.states 0 × (LentOn T c.form.n room × LentOn U c.form.n room)
-  may_turn o more g e =
+  pub may_turn : 0 < left → (g : Gate) → gate_at n s at ≡ some g
+      → StandsIn c.second T U c.form b × (Light g × Fits c.form.n g) × ListsIn cur names room.states 0 × (LentOn T c.form.n room × LentOn U c.form.n room)
+  may_turn more g e =
       let r = gate-ready (here go.readable more).1 g e in
-      (go.stands o, (r.0, subst (λ (m : ℕ). Fits m g) (sym go.qubits) r.1), go.lists, (subst (λ (m : ℕ). LentOn T m room) (sym go.qubits) go.one, subst (λ (m : ℕ). LentOn U m room) (sym go.qubits) go.two))
+      (go.stands, (r.0, subst (λ (m : ℕ). Fits m g) (sym go.qubits) r.1), go.lists, (subst (λ (m : ℕ). LentOn T m room) (sym go.qubits) go.one, subst (λ (m : ℕ). LentOn U m room) (sym go.qubits) go.two))
 
-  module _ (o : c.ok ≡ true) (more : 0 < left) (g : Gate) (e : gate_at n s at ≡ some g) where
+  module _ (more : 0 < left) (g : Gate) (e : gate_at n s at ≡ some g) where
     abbrev Q : QSet
     Q = set_on c.form (holder c.second T U)
 
@@ -233,8 +160,7 @@ module _ {n : ℕ} {s : List ℕ} {room : Room} {T U : Table} {cur next link hea
         let up : place + 1 ≡ suc place = omega arith in
         let gs : gates_from n s at left ≡ g ∷ gates_from n s (at + gt_size) (left - 1) = ap (gates_from n s at) m ∙ gates-next n s at (left - 1) g e in
         ap (λ (p : ℕ). on_good (judge_gate b place g Q) (after_gates b p (gates_from n s (at + gt_size) (left - 1)))) up
-        ∙ sym (ap (λ (l : List Gate). after_gates b place l Q) gs)
-        ∙ sym (ap (λ (k : Bool). on_good (cond k (good Q) (refused (refusal c.refusal.number c.refusal.source c.refusal.place))) (after_gates b place (gates_from n s at left))) o) ∙ go.comes
+        ∙ sym (ap (λ (l : List Gate). after_gates b place l Q) gs) ∙ go.comes
 
     same-n : (N : QSet) → judge_gate b place g Q ≡ good N → N.n ≡ n
     same-n N j = ap (λ (M : QSet). M.n) (sym (judged-gate b place g Q N j).3) ∙ n_kept g Q ∙ holder-n c.second ∙ go.qubits
@@ -244,18 +170,30 @@ module _ {n : ℕ} {s : List ℕ} {room : Room} {T U : Table} {cur next link hea
             let H = holder second T U in
             set-n c.form H.rows H.masks H.coefs H.counts
 
-    pub turned : {T' U' : Table} {cur' next' link' heads' : List ℕ} {x : GateResult} {d : Carry} → x ≡ result_of (judge_gate b place g Q)
-        → ((N : QSet) → judge_gate b place g Q ≡ good N → HoldingOn (other c.second T' U') N b) → SameLong T' T → SameLong U' U
-        → SameLists cur' next' link' heads' cur next link heads → d ≡ next_of c x → Going n s room T' U' cur' next' link' heads' d (left - 1) (at + gt_size) (place + 1) J
-    turned {T'} {U'} {cur'} {next'} {link'} {heads'} is table one two lists then =
-        subst (λ (z : Carry). Going n s room T' U' cur' next' link' heads' z (left - 1) (at + gt_size) (place + 1) J) (sym then)
+    -- a set was made
+    pub turned : {T' U' : Table} {cur' : List ℕ} {names' : Names} (f : Form) {d : Image} → judged (Ok f) ≡ seen form_of (judge_gate b place g Q)
+        → ((N : QSet) → judge_gate b place g Q ≡ good N → HoldingOn (other c.second T' U') N b) → SameLengths T T' → SameLengths U U'
+        → length cur' ≡ length cur → SameNames names names' → d ≡ next_image c f → Going n s room T' U' cur' names' d (left - 1) (at + gt_size) (place + 1) J
+    turned {T'} {U'} {cur'} {names'} f is table one two long lists then =
+        let m = made-good (judge_gate b place g Q) {x = Ok f} is refl in
+        let h = table m.set m.taken in
+        let image : record { form = form_of m.set; second = not c.second } ≡ next_image c f = ap (λ (z : Form). record { form = z; second = not c.second }) (sym m.form) in
+        subst (λ (z : Image). Going n s room T' U' cur' names' z (left - 1) (at + gt_size) (place + 1) J) (image ∙ sym then)
         (record {
-          comes = ap (λ (j : Judged QSet). on_good j (after_gates b (place + 1) (gates_from n s (at + gt_size) (left - 1)))) (next-judged T' U' b c (judge_gate b place g Q) is table) ∙ unfolded;
-          stands = next-stands T' U' b c (judge_gate b place g Q) is table;
-          qubits = next-form T' U' b c (judge_gate b place g Q) is table n go.qubits same-n;
+          comes = ap (after_gates b (place + 1) (gates_from n s (at + gt_size) (left - 1))) (set_other T' U' b c.second m.set h)
+              ∙ sym (ap (λ (j : Judged QSet). on_good j (after_gates b (place + 1) (gates_from n s (at + gt_size) (left - 1)))) m.taken) ∙ unfolded;
+          stands = stands-other T' U' b c.second m.set h;
+          qubits = same-n m.set m.taken;
           readable = later go.readable more;
-          few = omega (arith, go.few);
-          lists = lists-long lists go.lists;
+          lists = lists-long long lists go.lists;
           one = lent-long one go.one;
           two = lent-long two go.two;
         })
+
+    -- the gate was refused
+    pub turned_down : {T' U' : Table} (r : Refusal) → judged {A = Form} (Err r) ≡ seen form_of (judge_gate b place g Q) → Carried n T' U' (Err r) b J
+    turned_down r is = record {
+      judged_is = sym (ap (λ (j : Judged QSet). on_good j (after_gates b (place + 1) (gates_from n s (at + gt_size) (left - 1)))) (refused-told (judge_gate b place g Q) {x = Err r} is refl)) ∙ unfolded;
+      stands = λ i e. cc;
+      qubits = λ i e. cc;
+    }

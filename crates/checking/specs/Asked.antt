@@ -2,13 +2,14 @@
 -- rows of the last phase.
 use Rattle.std.specs.Prelude.{List, ℕ, ◌≤◌}
 use Rattle.stored.specs.Rules.{n_most}
-use Rattle.tables.specs.Ready.{Roomy}
+use Rattle.tables.specs.Slices.{RoomyOn}
 use Rattle.building.specs.declared.Room.{Room}
 use Rattle.carrying.specs.Tables.{Table}
 use Rattle.deciding.specs.Decided.{LastRows, Roomed}
 
-abbrev pub RoomyOn : Table → Room → Type 0
-RoomyOn T room = Roomy T.rows T.masks T.coefs T.counts T.first n_most room.states room.inner room.leaves
+-- a table with room for every set that the room admits
+abbrev pub RoomyFor : Table → Room → Type 0
+RoomyFor T room = RoomyOn T n_most room.states room.inner room.leaves
 
 pub record Checking (met stack kept hints : List ℕ) (room endroom : Room) : Type 0 where
   pub start : Roomed room

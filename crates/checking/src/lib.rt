@@ -3,7 +3,7 @@
 #![tactic(auto)]
 
 ghost use Rattle.std.specs.Prelude.{◌≡◌};
-ghost use Rattle.replies.specs.Replied.{reply_from};
+ghost use Rattle.replies.specs.Replied.{fields_of, reply_from};
 ghost use Rattle.setfile.specs.Answer.{bounds_of};
 ghost use Rattle.applying.specs.Result.{bounds_from};
 ghost use Rattle.deciding.specs.Decided.{checked_by};
@@ -12,9 +12,10 @@ ghost use Rattle.checking.specs.Asked.{Checking};
 use buffers::{COEFS, COUNTS, FIRST, MASKS, ROWS};
 use building::Room;
 use deciding::decide;
-use preparing::{Prepared, prepare};
-use replies::{Reply, refused};
+use preparing::prepare;
+use replies::Reply;
 use setfile::Bounds;
+use tables::TableMut;
 use terms::Terms;
 
 // What may be written, as bounds of a set file.
@@ -42,55 +43,47 @@ pub fn check_files(
     endroom: Room,
 ) -> Reply
     requires { Checking met.old stack.old kept.old hints.old room endroom }
-    ensures { result ≡ reply_from (checked_by (bounds_from room) (bounds_from endroom) start.now circuit.now end.now terms.most) }
+    ensures { fields_of result ≡ reply_from (checked_by (bounds_from room) (bounds_from endroom) start.now circuit.now end.now terms.most) }
 {
-    let mut arows = [0u16; ROWS];
-    let mut amasks = [0u32; MASKS];
-    let mut acoefs = [0i32; COEFS];
-    let mut acounts = [0u16; COUNTS];
-    let mut afirst = [0u16; FIRST];
+    let mut rows = [0u16; ROWS];
+    let mut masks = [0u32; MASKS];
+    let mut coefs = [0i32; COEFS];
+    let mut counts = [0u16; COUNTS];
+    let mut first = [0u16; FIRST];
+    let mut table = TableMut {
+        rows: &mut rows,
+        masks: &mut masks,
+        coefs: &mut coefs,
+        counts: &mut counts,
+        first: &mut first,
+    };
     let mut endrows = [0u16; ROWS];
     let mut endmasks = [0u32; MASKS];
     let mut endcoefs = [0i32; COEFS];
     let mut endcounts = [0u16; COUNTS];
     let mut endfirst = [0u16; FIRST];
+    let mut endtable = TableMut {
+        rows: &mut endrows,
+        masks: &mut endmasks,
+        coefs: &mut endcoefs,
+        counts: &mut endcounts,
+        first: &mut endfirst,
+    };
     match prepare(
         start,
         circuit,
         end,
         bounds_of(room),
         bounds_of(endroom),
-        &mut arows,
-        &mut amasks,
-        &mut acoefs,
-        &mut acounts,
-        &mut afirst,
-        &mut endrows,
-        &mut endmasks,
-        &mut endcoefs,
-        &mut endcounts,
-        &mut endfirst,
+        &mut table,
+        &mut endtable,
     ) {
-        Prepared::Refused(r) => refused(r),
-        Prepared::Ready(files) => decide(
-            circuit,
-            files,
-            &mut arows,
-            &mut amasks,
-            &mut acoefs,
-            &mut acounts,
-            &mut afirst,
-            &endrows,
-            &endmasks,
-            &endcoefs,
-            &endcounts,
-            &endfirst,
-            met,
-            stack,
-            kept,
-            hints,
-            terms,
-            room,
-        ),
+        Err(r) => Reply::Refused(r),
+        Ok(files) => {
+            let ends = endtable.view();
+            decide(
+                circuit, files, &mut table, &ends, met, stack, kept, hints, terms, room,
+            )
+        }
     }
 }

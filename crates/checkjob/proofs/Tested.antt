@@ -6,13 +6,12 @@ use Prim.Native.Nat.{ℕ}
 use native.Mathlib.Omega.{arith}
 use lib.Dec.{leb}
 use lib.ListN.{length, replicate, length-replicate}
-use borrow.Author.Tests.{leb-true, le-leb}
-use Rattle.amplitude.proofs.Equal.{both}
+use borrow.Author.Tests.{le-leb}
 use Rattle.stored.specs.Refusal.{refusal, no_source, need}
 use Rattle.jobs.specs.Buffers.{Buffer, long_enough, wiped_all, work_after}
 use Rattle.jobs.specs.Check.{answer, judge_check, check_answer, check_reply, check_work}
 use Rattle.jobs.specs.Reply.{reply_of, refused}
-use Rattle.replies.specs.declared.Reply.{Reply}
+use Rattle.replies.specs.declared.Fields.{Fields}
 use Rattle.replies.specs.Replied.{reply_from}
 use Rattle.buffers.specs.Sizes.{marks_size, hints_size}
 use Rattle.checkjob.specs.Sizes.{check_sizes, check_lent, Long}
@@ -31,25 +30,17 @@ module _ (met stack kept hints : List ℕ) where
       go true true true false = refl
       go true true true true = refl
 
-  pub is-long : all_long ≡ true → Long met stack kept hints
-  is-long h =
-      let a = both (leb marks_size (length met)) _ h in
-      let b = both (leb marks_size (length stack)) _ a.1 in
-      let c = both (leb marks_size (length kept)) _ b.1 in
-      record {
-        met_long = leb-true marks_size (length met) a.0;
-        stack_long = leb-true marks_size (length stack) b.0;
-        kept_long = leb-true marks_size (length kept) c.0;
-        hints_long = leb-true hints_size (length hints) c.1;
-      }
+  pub all-long-is : Long met stack kept hints → true ≡ all_long
+  all-long-is h =
+      rw (le-leb marks_size (length met) h.met_long, le-leb marks_size (length stack) h.stack_long, le-leb marks_size (length kept) h.kept_long, le-leb hints_size (length hints) h.hints_long)
 
 -- the definitions' reply and work buffers after the test
 module _ (s c e : List ℕ) (most : ℕ) (work : List Buffer) where
-  abbrev after : Bool → Reply
+  abbrev after : Bool → Fields
   after long = reply_from (reply_of (answer most) (need long (refusal 17 no_source 0) (judge_check s c e)))
 
   module _ (h : false ≡ long_enough check_sizes work) where
-    pub short_reply : {r : Reply} → r ≡ reply_from (refused (refusal 17 no_source 0)) → r ≡ reply_from (check_reply check_sizes s c e most work)
+    pub short_reply : {r : Fields} → r ≡ reply_from (refused (refusal 17 no_source 0)) → r ≡ reply_from (check_reply check_sizes s c e most work)
     unfolding check_reply
     short_reply g = g ∙ ap after h
 
@@ -58,7 +49,7 @@ module _ (s c e : List ℕ) (most : ℕ) (work : List Buffer) where
     short_work = ap (λ (b : Bool). work_after b check_sizes work) h
 
   module _ (h : true ≡ long_enough check_sizes work) where
-    pub long_reply : {r : Reply} → r ≡ reply_from (check_answer s c e most) → r ≡ reply_from (check_reply check_sizes s c e most work)
+    pub long_reply : {r : Fields} → r ≡ reply_from (check_answer s c e most) → r ≡ reply_from (check_reply check_sizes s c e most work)
     unfolding check_reply check_answer
     long_reply g = g ∙ ap after h
 
@@ -67,7 +58,7 @@ module _ (s c e : List ℕ) (most : ℕ) (work : List Buffer) where
     long_work g = g ∙ ap (λ (b : Bool). work_after b check_sizes work) h
 
     -- and back
-    pub own_reply : {r : Reply} → r ≡ reply_from (check_reply check_sizes s c e most work) → r ≡ reply_from (check_answer s c e most)
+    pub own_reply : {r : Fields} → r ≡ reply_from (check_reply check_sizes s c e most work) → r ≡ reply_from (check_answer s c e most)
     unfolding check_reply check_answer
     own_reply g = g ∙ ap after (sym h)
 

@@ -8,7 +8,7 @@ use lib.ListN.{take, drop, replicate}
 use lib.Seq.{length-take-le}
 use Rattle.jobs.specs.Buffers.{Buffer, unsigned, zeroed, wiped_all}
 use Rattle.jobs.specs.Check.{check_answer}
-use Rattle.replies.specs.declared.Reply.{Reply}
+use Rattle.replies.specs.declared.Fields.{Fields}
 use Rattle.replies.specs.Replied.{reply_from}
 use Rattle.building.specs.declared.Room.{Room}
 use Rattle.applying.specs.Result.{bounds_from}
@@ -33,7 +33,7 @@ module _ {met stack kept hints : List ℕ} where
   pub may_check : {room endroom : Room} → room ≡ room_of 1024 → endroom ≡ room_of 128 → MarksSized met stack kept hints → Checking met stack kept hints room endroom
   may_check r q m = rw (r, q) (sized m)
 
-pub is-answer : (s c e : List ℕ) (most : ℕ) (room endroom : Room) {r : Reply} → room ≡ room_of 1024 → endroom ≡ room_of 128
+pub is-answer : (s c e : List ℕ) (most : ℕ) (room endroom : Room) {r : Fields} → room ≡ room_of 1024 → endroom ≡ room_of 128
     → r ≡ reply_from (checked_by (bounds_from room) (bounds_from endroom) s c e most) → r ≡ reply_from (check_answer s c e most)
 is-answer s c e most room endroom h k i =
     i ∙ ap₂ (λ (x y : Room). reply_from (checked_by (bounds_from x) (bounds_from y) s c e most)) h k ∙ ap reply_from (as_checked s c e most)

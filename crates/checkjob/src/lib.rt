@@ -2,18 +2,18 @@
 // buffers' sizes, lends just their named sizes to the work, and leaves these at zero (docs/BUFFERS.md). Tables and keys are arrays of its own.
 #![tactic(auto)]
 
-ghost use Rattle.std.specs.Prelude.{◌≡◌, ◌&&◌, leb, length, replicate};
+ghost use Rattle.std.specs.Prelude.{◌≡◌, replicate};
 ghost use Rattle.jobs.specs.Buffers.{wiped_all};
 ghost use Rattle.jobs.specs.Check.{check_answer, check_reply, check_work};
-ghost use Rattle.replies.specs.Replied.{reply_from};
+ghost use Rattle.replies.specs.Replied.{fields_of, reply_from};
 ghost use Rattle.buffers.specs.Sizes.{marks_size, hints_size, MarksSized};
 ghost use Rattle.checkjob.specs.Sizes.{check_sizes, check_lent, Long};
 
 use buffers::{END_STATES, HINTS, INNER, LEAVES, MARKS, STATES};
 use building::Room;
 use checking::check_files;
-use refusals::Refusal;
-use replies::{Reply, refused};
+use refusals::{Reason, Refusal};
+use replies::Reply;
 use terms::Terms;
 use wiping::wipe_marks;
 
@@ -40,7 +40,7 @@ fn work(
     hints: &mut [u8],
 ) -> Reply
     requires { MarksSized met.old stack.old kept.old hints.old }
-    ensures value { result ≡ reply_from (check_answer start.now circuit.now end.now terms.most) }
+    ensures value { fields_of result ≡ reply_from (check_answer start.now circuit.now end.now terms.most) }
     ensures met_after { met.new ≡ replicate marks_size 0 }
     ensures stack_after { stack.new ≡ replicate marks_size 0 }
     ensures kept_after { kept.new ≡ replicate marks_size 0 }
@@ -74,7 +74,7 @@ fn lend(
     hints: &mut [u8],
 ) -> Reply
     requires { Long met.old stack.old kept.old hints.old }
-    ensures value { result ≡ reply_from (check_answer start.now circuit.now end.now terms.most) }
+    ensures value { fields_of result ≡ reply_from (check_answer start.now circuit.now end.now terms.most) }
     ensures hints_after { check_lent met.new stack.new kept.new hints.new
         ≡ wiped_all check_sizes (check_lent met.old stack.old kept.old hints.old) }
 {
@@ -90,13 +90,6 @@ fn lend(
     )
 }
 
-// Each row has its named size or more.
-fn marks_long(met: usize, stack: usize, kept: usize, hints: usize) -> bool
-    ensures { result ≡ (leb marks_size met && (leb marks_size stack && (leb marks_size kept && leb hints_size hints))) }
-{
-    (MARKS <= met) & ((MARKS <= stack) & ((MARKS <= kept) & (HINTS <= hints)))
-}
-
 // The job, for any three files, any terms and any lent buffers.
 pub fn check(
     start: &[u8],
@@ -108,24 +101,20 @@ pub fn check(
     kept: &mut [u32],
     hints: &mut [u8],
 ) -> Reply
-    ensures value { result ≡ reply_from (check_reply check_sizes start.now circuit.now end.now terms.most
+    ensures value { fields_of result ≡ reply_from (check_reply check_sizes start.now circuit.now end.now terms.most
         (check_lent met.old stack.old kept.old hints.old)) }
     ensures hints_after { check_lent met.new stack.new kept.new hints.new
         ≡ check_work check_sizes (check_lent met.old stack.old kept.old hints.old) }
 {
-    if !marks_long(met.len(), stack.len(), kept.len(), hints.len()) {
-        return refused(Refusal {
-            number: 17,
-            source: 0,
-            place: 0,
-        });
+    if met.len() < MARKS || stack.len() < MARKS || kept.len() < MARKS || hints.len() < HINTS {
+        return Reply::Refused(Refusal::alone(Reason::Short));
     }
     lend(start, circuit, end, terms, met, stack, kept, hints)
 }
 
 // The job with buffers of its own, which are never short: what the C entry and the program call. About 220 KB of the stack are these.
 pub fn check_own(start: &[u8], circuit: &[u8], end: &[u8], terms: Terms) -> Reply
-    ensures { result ≡ reply_from (check_answer start.now circuit.now end.now terms.most) }
+    ensures { fields_of result ≡ reply_from (check_answer start.now circuit.now end.now terms.most) }
 {
     let mut met = [0u32; MARKS];
     let mut stack = [0u32; MARKS];

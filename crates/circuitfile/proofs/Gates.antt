@@ -1,5 +1,5 @@
 -- A circuit that is taken has the gates that its records are, in order: the record at each place passed, so nothing was skipped. Assumes nothing.
-use mathlib.Core.Path.{◌≡◌, refl, sym, ap, ◌∙◌}
+use mathlib.Core.Path.{◌≡◌, sym, ap, ◌∙◌}
 use mathlib.Core.Bool.{◌&&◌}
 use mathlib.Core.List.{List, map}
 use mathlib.Core.Option.{Option, some}
@@ -9,15 +9,14 @@ use lib.ListN.{length, get_or, length-map, get_or-map}
 use lib.Dec.{eqb, leb}
 use borrow.Author.Tests.{eqb-true, leb-true}
 use Rattle.amplitude.proofs.Equal.{both}
-use Rattle.stored.specs.Refusal.{refusal, Judged, good, refused, circuit_source}
+use Rattle.std.specs.declared.result.Result.TheVariants.{Ok}
+use Rattle.stored.specs.Refusal.{refusal, Judged, good, circuit_source}
 use Rattle.stored.specs.Rules.{first_bad, passes}
 use Rattle.stored.proofs.Reading.{need-good, good-same}
 use Rattle.gates.specs.Gate as def
 use Rattle.gates.specs.Circuit.{gt_size, gates_most, gate_at, is_gate, somes, records_of, judge_gates, judge_circuit, judge_one}
-use Rattle.circuitfile.specs.declared.CircuitAnswer.TheVariants.{Good}
-use Rattle.circuits.specs.declared.GateAnswer.TheVariants.{Is}
-use Rattle.circuits.specs.Answer.{gate_from, gate_answer}
-use Rattle.circuitfile.specs.Answer.{circuit_answer}
+use Rattle.refusals.specs.Refused.{judged, seen}
+use Rattle.refusals.proofs.Told.{good_seen}
 use Rattle.circuitfile.proofs.Scan.{record_at}
 use Rattle.circuitfile.proofs.Judging.{all-gates, count_of}
 
@@ -25,7 +24,7 @@ use Rattle.circuitfile.proofs.Judging.{all-gates, count_of}
 pub record Gates (n : ℕ) (s : List ℕ) (gs : List def.Gate) : Type 0 where
   pub whole : length s ≡ length gs * gt_size
   pub few : length gs ≤ gates_most
-  pub answers : (i : ℕ) (d : def.Gate) → i < length gs → gate_answer (gate_at n s (i * gt_size)) ≡ Is (gate_from (get_or gs i d))
+  pub answers : (i : ℕ) (d : def.Gate) → i < length gs → gate_at n s (i * gt_size) ≡ some (get_or gs i d)
 
 module _ (n : ℕ) (s : List ℕ) (gs : List def.Gate) where
   -- the records are the gates
@@ -46,8 +45,7 @@ module _ (n : ℕ) (s : List ℕ) (gs : List def.Gate) where
         few = omega arith;
         answers = λ i d h.
             let at : get_or (records_of n s) i (some d) ≡ gate_at n s (0 + i * gt_size) = record_at (gate_at n s) gt_size 0 (length s / gt_size) i (some d) (omega arith) in
-            ap (λ (k : ℕ). gate_answer (gate_at n s k)) (omega arith)
-            ∙ ap gate_answer (sym at ∙ ap (λ (os : List (Option def.Gate)). get_or os i (some d)) are ∙ get_or-map some gs i d);
+            ap (gate_at n s) (omega arith) ∙ sym at ∙ ap (λ (os : List (Option def.Gate)). get_or os i (some d)) are ∙ get_or-map some gs i d;
       }
 
   pub circuit_gates : judge_circuit n s ≡ good gs → Gates n s gs
@@ -64,7 +62,6 @@ module _ (n : ℕ) (s : List ℕ) (gs : List def.Gate) where
       let six : length s ≡ gt_size = eqb-true (length s) gt_size p.0 in
       gates_of (omega arith) (omega arith) p.1
 
--- an answer `Good` is the number of gates of a circuit that was taken
-pub good-told : (j : Judged (List def.Gate)) (count : ℕ) → circuit_answer j ≡ Good count → (gs : List def.Gate) × (j ≡ good gs) × (length gs ≡ count)
-good-told (refused r) count e = absurd (let z : ◌≡◌ {A = ℕ} 0 1 = cc in omega arith)
-good-told (good gs) count e = (gs, refl, cc)
+-- a value is the number of gates of a circuit that was taken
+pub good-told : (j : Judged (List def.Gate)) (count : ℕ) → judged (Ok count) ≡ seen length j → (gs : List def.Gate) × (j ≡ good gs) × (length gs ≡ count)
+good-told j count e = let k = good_seen length j count e in (k.thing, k.good, sym k.value)

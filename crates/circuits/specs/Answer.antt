@@ -1,16 +1,14 @@
 -- Document 01, "a gate is plain with its kind, or controlled with its control and kind": the definitions' kinds and gates as the enums of
 -- the code.
 use Rattle.std.proofs.Math.Option.{Option, none, some}
+use Rattle.std.specs.Prelude as code
+use Rattle.std.specs.declared.option.Option.TheVariants.{Some, None}
 use Rattle.gates.specs.Gate as def
 use Rattle.gates.specs.Gate.{phase, flip, H, plain, controlled}
 use Rattle.circuits.specs.declared.Kind.{Kind}
 use Rattle.circuits.specs.declared.Kind.TheVariants as kind
 use Rattle.circuits.specs.declared.Gate.{Gate}
 use Rattle.circuits.specs.declared.Gate.TheVariants as gate
-use Rattle.circuits.specs.declared.KindAnswer.{KindAnswer}
-use Rattle.circuits.specs.declared.KindAnswer.TheVariants as of_kind
-use Rattle.circuits.specs.declared.GateAnswer.{GateAnswer}
-use Rattle.circuits.specs.declared.GateAnswer.TheVariants as of_gate
 
 -- "(phase, flip, H)"
 abbrev pub kind_from : def.Kind → Kind
@@ -34,12 +32,12 @@ abbrev pub gate_is : Gate → def.Gate
 gate_is (gate.Plain k t) = plain (kind_is k) t
 gate_is (gate.Controlled c k t) = controlled c (kind_is k) t
 
--- a code's kind, or none
-abbrev pub kind_answer : Option def.Kind → KindAnswer
-kind_answer none = of_kind.Wrong
-kind_answer (some k) = of_kind.Is (kind_from k)
+-- the kind of a code, or none
+abbrev pub kind_told : code.Option Kind → Option def.Kind
+kind_told None = none
+kind_told (Some k) = some (kind_is k)
 
--- a record's gate, or none
-abbrev pub gate_answer : Option def.Gate → GateAnswer
-gate_answer none = of_gate.Wrong
-gate_answer (some g) = of_gate.Is (gate_from g)
+-- the gate of a record, or none
+abbrev pub gate_told : code.Option Gate → Option def.Gate
+gate_told None = none
+gate_told (Some g) = some (gate_is g)

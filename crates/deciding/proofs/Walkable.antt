@@ -1,5 +1,5 @@
 -- A set that stands in slices can be searched and walked, and the numbers of its states are within its bounds. Assumes nothing.
-use mathlib.Core.Path.{◌≡◌, sym, ◌∙◌}
+use mathlib.Core.Path.{◌≡◌, sym, ◌∙◌, subst}
 use mathlib.Core.List.{List}
 use Prim.Native.Nat.{ℕ, suc, ◌<◌, ◌≤◌}
 use native.Mathlib.Omega.{arith}
@@ -16,7 +16,11 @@ use Rattle.matching.specs.Levels.{start_of}
 use Rattle.matching.specs.Seeking.{Held}
 use Rattle.matching.proofs.LevelLaws.{start-most}
 use Rattle.matching.proofs.Grounds.{start_is}
-use Rattle.striding.specs.Lodged.{Lodged}
+use Rattle.striding.specs.Lodged.{Lodged, LodgedOn}
+use Rattle.imagewise.specs.Image.{image_verdict}
+use Rattle.jobs.specs.Reply.{says}
+use Rattle.replies.specs.declared.Fields.{Fields}
+use Rattle.replies.specs.Replied.{reply_from}
 use Rattle.building.specs.Going.{Lists}
 use Rattle.applying.specs.Standing.{Lent}
 use Rattle.buffers.specs.Sizes.{TableSized, ListsSized}
@@ -69,6 +73,15 @@ walkable {files = files} d s e =
       slots = d.rows.kept_long;
       cells = d.rows.hints_long;
     }
+
+-- what the walk asks and says of an image that it reads through a view of its table
+module _ {V T : Table} (e : V ≡ T) {E : Table} {met stack kept hints n : ℕ} where
+  pub viewed_on : LodgedOn T E met stack kept hints n → LodgedOn V E met stack kept hints n
+  viewed_on g = subst (λ (X : Table). LodgedOn X E met stack kept hints n) (sym e) g
+
+  pub walked_on : (most : ℕ) {r : Fields} → ((g : LodgedOn V E met stack kept hints n) → r ≡ reply_from (says (image_verdict g.image.set g.ends.set most)))
+      → (g : LodgedOn T E met stack kept hints n) → r ≡ reply_from (says (image_verdict g.image.set g.ends.set most))
+  walked_on most {r} h = subst (λ (X : Table). (g : LodgedOn X E met stack kept hints n) → r ≡ reply_from (says (image_verdict g.image.set g.ends.set most))) e h
 
 -- ---- the gates' own arrays
 -- a table and lists of just their named sizes have room for every set that the room admits

@@ -5,8 +5,9 @@ use Prim.Native.Nat.{ℕ, ◌+◌, ◌-◌, ◌*◌, ◌<◌, ◌≤◌}
 use native.Mathlib.Omega.{arith}
 use lib.IntN.{ℤ}
 use lib.ListN.{length, take, drop, set, length-set}
+use Rattle.std.specs.Prelude.{Option}
 use Rattle.gates.specs.Numbering.{Built}
-use Rattle.growing.specs.Growing.{Kept}
+use Rattle.building.specs.Fresh.{Kept}
 use Rattle.building.specs.Whole.{Whole}
 use Rattle.building.specs.Going.{Lists, Rest, Past}
 use Rattle.building.specs.declared.Room.{Room}
@@ -50,6 +51,6 @@ rest-lent {rows} {masks} {coefs} {counts} {left} {count} {w} p = record {
   few = p.few;
 }
 
-pub same-built : {rows masks : List ℕ} {coefs : List ℤ} {counts : List ℕ} {room : Room} {r : Outcome} {B C : Built} → B ≡ C → Whole rows masks coefs counts room r B
+pub same-built : {rows masks : List ℕ} {coefs : List ℤ} {counts : List ℕ} {room : Room} {r : Option Outcome} {B C : Built} → B ≡ C → Whole rows masks coefs counts room r B
     → Whole rows masks coefs counts room r C
 same-built {rows} {masks} {coefs} {counts} {room} {r} e w = subst (λ (B : Built). Whole rows masks coefs counts room r B) e w

@@ -6,34 +6,19 @@ ghost use Rattle.std.specs.Prelude.{eqb, take};
 ghost use Rattle.gates.specs.Numbering.{number};
 ghost use Rattle.stepwise.specs.Code.{coded};
 ghost use Rattle.circuits.specs.Answer.{gate_is};
+ghost use Rattle.tables.specs.Slices.{table_is};
 ghost use Rattle.lookup.specs.Alts.{table_automaton};
 ghost use Rattle.building.specs.Whole.{Whole, Below};
 ghost use Rattle.building.specs.Going.{Lists, Going, Rest, Past};
 
-use building::{Outcome, Room, last_level, one_level, too_many, topped};
-use circuits::Gate;
+use building::{Given, Here, Outcome, Room, last_level, one_level, topped};
 use growing::Most;
 use tables::ROW_WIDTH;
 
-// Where building stands: the level, how many levels of qubits are still to come, how many states the level has, and the number of its first one.
-#[derive(Clone, Copy)]
-pub struct Here {
-    pub level: u8,
-    pub left: u8,
-    pub count: u16,
-    pub start: u16,
-}
-
-// The levels from this one on: its states have the keys at the front of `cur`.
+// The levels from this one on: its states have the keys at the front of `cur`. None: there is no room for all of them.
 #[cycle(build_levels_rest_levels)]
 pub fn build_levels(
-    old: &[u16],
-    oldmasks: &[u32],
-    numbers: &[i32],
-    first: &[u16],
-    states: u16,
-    k: u8,
-    g: Gate,
+    given: &Given,
     here: Here,
     cur: &mut [u64],
     next: &mut [u64],
@@ -43,40 +28,30 @@ pub fn build_levels(
     masks: &mut [u32],
     coefs: &mut [i32],
     counts: &mut [u16],
-    room: Room,
-) -> Outcome
-    requires going { Going old.now oldmasks.now numbers.now first.now states k (gate_is g) here.level here.left cur.old here.count }
-    requires lists { Lists cur.old next.old link.old heads.old room.states here.start }
-    requires rest { Rest rows.old masks.old coefs.old counts.old here.left here.count room }
-    ensures { Whole rows.new masks.new coefs.new counts.new room result
-        (number eqb (coded (gate_is g) (table_automaton old.now oldmasks.now numbers.now first.now))
+) -> Option<Outcome>
+    requires going { Going (table_is given.now.table) given.now.k (gate_is given.now.gate) here.level here.left cur.old here.count }
+    requires lists { Lists cur.old next.old link.old heads.old here.room.states here.start }
+    requires rest { Rest rows.old masks.old coefs.old counts.old here.left here.count here.room }
+    ensures { Whole rows.new masks.new coefs.new counts.new here.room result
+        (number eqb (coded (gate_is given.now.gate)
+        (table_automaton given.now.table.rows.now given.now.table.masks.now given.now.table.coefs.now given.now.table.first.now))
         here.level here.left here.start (take here.count cur.old)) }
 {
-    let count = here.count;
-    let start = here.start;
-    counts[0] = count;
+    counts[0] = here.count;
     if here.left == 0 {
-        return last_level(
-            old, oldmasks, numbers, first, cur, count, start, k, rows, masks, coefs, room,
-        );
+        return last_level(given, here, cur, rows, masks, coefs);
     }
-    let base = start + count;
-    let spare = room.states - count;
+    let base = here.start + here.count;
+    let spare = here.room.states - here.count;
     let most = Most {
-        rows: room.inner,
+        rows: here.room.inner,
         keys: spare,
         base,
     };
-    let done = one_level(
-        old, oldmasks, first, states, g, here.level, cur, count, rows, masks, next, link, heads,
-        most, start,
-    );
-    if !done.ok {
-        return too_many();
-    }
+    let done = one_level(given, here, cur, rows, masks, next, link, heads, most)?;
     let rest = Room {
-        inner: room.inner - done.rows,
-        leaves: room.leaves,
+        inner: here.room.inner - done.rows,
+        leaves: here.room.leaves,
         states: spare,
     };
     let under = Here {
@@ -84,24 +59,19 @@ pub fn build_levels(
         left: here.left - 1,
         count: done.keys,
         start: base,
+        above: done.rows,
+        room: rest,
     };
     let below = rest_levels(
-        old, oldmasks, numbers, first, states, k, g, under, next, cur, link, heads, rows, masks,
-        coefs, counts, rest, done.rows,
-    );
-    topped(done.rows, count, below)
+        given, under, next, cur, link, heads, rows, masks, coefs, counts,
+    )?;
+    Some(topped(done.rows, here.count, below))
 }
 
-// The same into the rest of the slices, past w rows and one count.
+// The same into the rest of the slices, past the rows of the level above and one count.
 #[cycle(build_levels_rest_levels)]
 pub fn rest_levels(
-    old: &[u16],
-    oldmasks: &[u32],
-    numbers: &[i32],
-    first: &[u16],
-    states: u16,
-    k: u8,
-    g: Gate,
+    given: &Given,
     here: Here,
     cur: &mut [u64],
     next: &mut [u64],
@@ -111,25 +81,18 @@ pub fn rest_levels(
     masks: &mut [u32],
     coefs: &mut [i32],
     counts: &mut [u16],
-    room: Room,
-    w: u16,
-) -> Outcome
-    requires going { Going old.now oldmasks.now numbers.now first.now states k (gate_is g) here.level here.left cur.old here.count }
-    requires lists { Lists cur.old next.old link.old heads.old room.states here.start }
-    requires past { Past rows.old masks.old coefs.old counts.old here.left here.count w room }
-    ensures { Below rows.old masks.old counts.old rows.new masks.new coefs.new counts.new w room result
-        (number eqb (coded (gate_is g) (table_automaton old.now oldmasks.now numbers.now first.now))
+) -> Option<Outcome>
+    requires going { Going (table_is given.now.table) given.now.k (gate_is given.now.gate) here.level here.left cur.old here.count }
+    requires lists { Lists cur.old next.old link.old heads.old here.room.states here.start }
+    requires past { Past rows.old masks.old coefs.old counts.old here.left here.count here.above here.room }
+    ensures { Below rows.old masks.old counts.old rows.new masks.new coefs.new counts.new here.above here.room result
+        (number eqb (coded (gate_is given.now.gate)
+        (table_automaton given.now.table.rows.now given.now.table.masks.now given.now.table.coefs.now given.now.table.first.now))
         here.level here.left here.start (take here.count cur.old)) }
 {
-    let at = w as usize;
+    let at = here.above as usize;
     build_levels(
-        old,
-        oldmasks,
-        numbers,
-        first,
-        states,
-        k,
-        g,
+        given,
         here,
         cur,
         next,
@@ -139,6 +102,5 @@ pub fn rest_levels(
         &mut masks[at..],
         coefs,
         &mut counts[1..],
-        room,
     )
 }

@@ -1,33 +1,12 @@
 -- The table that the leaves are read from: the amplitudes that its rows name, and what a walk along some of its rows asks of them.
-use Rattle.std.specs.Prelude.{◌≡◌, Bool, true, false, List, ℕ, ◌+◌, ◌-◌, ◌*◌, ◌<◌, ◌≤◌, ℤ, length, get_or}
-use Rattle.automata.specs.Choice.{Alt, alt}
+use Rattle.std.specs.Prelude.{◌≡◌, List, ℕ, ◌+◌, ◌<◌, ◌≤◌, ℤ, length, get_or}
+use Rattle.automata.specs.Choice.{Alt}
 use Rattle.automata.proofs.Choosing.{Disjoint}
 use Rattle.automata.proofs.Order.{Masked}
-use Rattle.stored.specs.Fields.{records_from}
-use Rattle.gates.specs.Key.{Side, L, R}
 use Rattle.lookup.specs.Lookup.{pair_row}
 use Rattle.stepwise.specs.Code.{tag_in, first_in, second_in}
-use Rattle.stepwise.specs.Meet.{pick}
 use Rattle.lookup.specs.Alts.{ends_in}
 use Rattle.endrow.specs.Leaf.{Readable}
-
--- "A+B under L, A−B under R"
-abbrev pub side_is : Bool → Side
-side_is false = L
-side_is true = R
-
--- row i as an alternative that is taken by its number, and `count` rows from row `from` on
-abbrev pub row_alt : List ℕ → ℕ → Alt ℕ
-row_alt masks i = alt (get_or masks i 0) i
-
-abbrev pub row_alts : List ℕ → ℕ → ℕ → List (Alt ℕ)
-row_alts masks from count = records_from (row_alt masks) from 1 count
-
--- row i is the one picked at a choice among the rows from `from` up to below `to`: the first that has it, or row `from`
-pub record Picked (masks : List ℕ) (from to c i : ℕ) : Type 0 where
-  pub after : from ≤ i
-  pub before : i < to
-  pub is : pick (row_alt masks from) c (row_alts masks from (to - from)) ≡ row_alt masks i
 
 -- the rows from `from` up to below `to` are leaves of one k
 pub record Leaves (rows masks : List ℕ) (coefs : List ℤ) (k from to : ℕ) : Type 0 where

@@ -1,223 +1,130 @@
 // Document 01, "What each gate builds", at the leaves: the LF records of the last level, written into the rest of a lent table. The table read
-// is not changed. Leaves over the most that may be end the walk; a coefficient out of its range does not, since refusal 14 comes before 16.
+// is not changed. Leaves over the most that may be end the walk, with None; a coefficient out of its range does not, since refusal 14 comes
+// before 16.
 #![tactic(auto)]
 
 ghost use Rattle.std.specs.Prelude.{◌≡◌, ℕ, ◌+◌, ◌-◌, ◌≤◌, ◌<◌, length, get_or, take};
 ghost use Rattle.amplitude.specs.Leaf.{turn};
-ghost use Rattle.automata.specs.Choice.{choices_most, map_alt, together};
+ghost use Rattle.automata.specs.Choice.{map_alt, together};
 ghost use Rattle.gates.specs.Roles.{pair_end};
 ghost use Rattle.gates.specs.Numbering as numbering;
 ghost use Rattle.lookup.specs.Alts.{leaf_alts};
 ghost use Rattle.ending.specs.Ends.{ends_of};
-ghost use Rattle.endrow.specs.Ended.{Lent, Ended};
-ghost use Rattle.ending.specs.Source.{side_is, Picked, Leaves, Distinct, LeafKey};
+ghost use Rattle.roles.specs.Kept.{side_is};
+ghost use Rattle.endrow.specs.Ended.{LentIn, EndedIn};
+ghost use Rattle.ending.specs.Source.{Leaves, Distinct, LeafKey};
 
-use endrow::{Ending, grown, joined_leaves, put_end, turned_leaf};
-use lookup::{Found, find_row, union_of};
-use masks::least_choice;
-
-// The first row from row `from` up to below row `to` whose mask has the choice; row `from` where there is none.
-fn pick_row(masks: &[u32], from: u16, to: u16, choice: u8) -> u16
-    requires { (from < to) × (to ≤ length masks.now) × (choice < choices_most) }
-    ensures { Picked masks.now from to choice result }
-{
-    let found = find_row(masks, from, to, choice);
-    let Found::Row(i) = found else {
-        return from;
-    };
-    i
-}
+use endrow::{NewLeaves, grown, joined_leaves, turned_leaf};
+use lookup::union_of;
+use pairing::pick_both;
+use roles::{Key, Side};
+use tables::Table;
 
 // The records of a state that has those of the rows from `from` up to below `to`, each times ω^shift.
 fn end_single(
-    src: &[u16],
-    choices: &[u32],
-    numbers: &[i32],
+    old: &Table,
     from: u16,
     to: u16,
     shift: u8,
     k: u8,
-    rows: &mut [u16],
-    masks: &mut [u32],
-    coefs: &mut [i32],
-    done: Ending,
-    most: u16,
+    leaves: &mut NewLeaves,
     state: u16,
-) -> Ending
-    requires leaves { Leaves src.now choices.now numbers.now k from to }
-    requires lent { Lent rows.old masks.old coefs.old most done }
-    ensures { Ended rows.old masks.old coefs.old done most
-        (numbering.rows state (map_alt (turn shift) (leaf_alts src.now choices.now numbers.now from (to - from))))
-        rows.new masks.new coefs.new result }
+) -> Option<()>
+    requires source { Leaves old.now.rows.now old.now.masks.now old.now.coefs.now k from to }
+    requires lent { LentIn leaves.old }
+    ensures { EndedIn leaves.old
+        (numbering.rows state (map_alt (turn shift) (leaf_alts old.now.rows.now old.now.masks.now old.now.coefs.now from (to - from))))
+        leaves.new result }
 {
-    let mut d = done;
-    let mut i = from;
-    while (i < to) & d.ok {
-        let x = turned_leaf(src, numbers, i, shift);
-        d = put_end(
-            rows,
-            masks,
-            coefs,
-            d,
-            most,
-            state,
-            choices[i as usize],
-            k as u16,
-            x,
-        );
-        i += 1;
+    for i in from..to {
+        let x = turned_leaf(old, i, shift);
+        leaves.put(state, old.masks[i as usize], k as u16, x)?;
     }
-    d
+    Some(())
 }
 
 // The records of a pair: "one transition for each two transitions whose masks meet, with the intersection as mask", in order of least choice.
 // Its states have the rows from `qfrom` up to below `qto` and from `pfrom` up to below `pto`. "k grows by one."
 fn end_pair(
-    src: &[u16],
-    choices: &[u32],
-    numbers: &[i32],
+    old: &Table,
     qfrom: u16,
     qto: u16,
     pfrom: u16,
     pto: u16,
-    minus: bool,
+    side: Side,
     k: u8,
-    rows: &mut [u16],
-    masks: &mut [u32],
-    coefs: &mut [i32],
-    done: Ending,
-    most: u16,
+    leaves: &mut NewLeaves,
     state: u16,
-) -> Ending
-    requires leaves { Leaves src.now choices.now numbers.now k qfrom qto × Leaves src.now choices.now numbers.now k pfrom pto }
-    requires distinct { Distinct (leaf_alts src.now choices.now numbers.now qfrom (qto - qfrom)) × Distinct (leaf_alts src.now choices.now numbers.now pfrom (pto - pfrom)) }
-    requires lent { Lent rows.old masks.old coefs.old most done }
-    ensures { Ended rows.old masks.old coefs.old done most
-        (numbering.rows state (together (pair_end (side_is minus))
-        (leaf_alts src.now choices.now numbers.now qfrom (qto - qfrom))
-        (leaf_alts src.now choices.now numbers.now pfrom (pto - pfrom))))
-        rows.new masks.new coefs.new result }
+) -> Option<()>
+    requires source { Leaves old.now.rows.now old.now.masks.now old.now.coefs.now k qfrom qto × Leaves old.now.rows.now old.now.masks.now old.now.coefs.now k pfrom pto }
+    requires distinct { Distinct (leaf_alts old.now.rows.now old.now.masks.now old.now.coefs.now qfrom (qto - qfrom))
+        × Distinct (leaf_alts old.now.rows.now old.now.masks.now old.now.coefs.now pfrom (pto - pfrom)) }
+    requires lent { LentIn leaves.old }
+    ensures { EndedIn leaves.old
+        (numbering.rows state (together (pair_end (side_is side))
+        (leaf_alts old.now.rows.now old.now.masks.now old.now.coefs.now qfrom (qto - qfrom))
+        (leaf_alts old.now.rows.now old.now.masks.now old.now.coefs.now pfrom (pto - pfrom))))
+        leaves.new result }
 {
     let up = grown(k);
-    let mut left = union_of(choices, qfrom, qto) & union_of(choices, pfrom, pto);
-    let mut steps: u8 = 32;
-    let mut d = done;
-    while (0 < left) & ((0 < steps) & d.ok) {
-        let c = least_choice(left) as u8;
-        let i = pick_row(choices, qfrom, qto, c);
-        let j = pick_row(choices, pfrom, pto, c);
-        let m = choices[i as usize] & choices[j as usize];
-        let x = joined_leaves(src, numbers, i, j, minus);
-        d = put_end(rows, masks, coefs, d, most, state, m, up, x);
-        left ^= m;
-        steps -= 1;
+    let mut left = union_of(old.masks, qfrom, qto) & union_of(old.masks, pfrom, pto);
+    for _step in 0..32u8 {
+        if left == 0 {
+            break;
+        }
+        let m = pick_both(old.masks, qfrom, qto, pfrom, pto, left);
+        let x = joined_leaves(old, m.i, m.j, side);
+        leaves.put(state, m.mask, up, x)?;
+        left ^= m.mask;
     }
-    d
+    Some(())
 }
 
-// The j of a shifted state's tag, which is 4 + j; 0 for one that is not shifted.
-fn shift_of(tag: u64) -> u8
-    requires { tag < 260 }
-    ensures { result ≡ tag - 4 }
+// The records of the state that a stored key names.
+fn end_state(old: &Table, key: u64, k: u8, leaves: &mut NewLeaves, state: u16) -> Option<()>
+    requires leaf_key { LeafKey old.now.rows.now old.now.masks.now old.now.coefs.now old.now.first.now k key }
+    requires lent { LentIn leaves.old }
+    ensures { EndedIn leaves.old
+        (numbering.rows state (ends_of old.now.rows.now old.now.masks.now old.now.coefs.now old.now.first.now key))
+        leaves.new result }
 {
-    if tag < 4 {
-        return 0;
+    match Key::unstored(key) {
+        Key::One(how, q) => {
+            let from = old.first[q as usize];
+            let to = old.first[q as usize + 1];
+            end_single(old, from, to, how.shift(), k, leaves, state)
+        }
+        Key::Pair(side, q, p) => {
+            let qfrom = old.first[q as usize];
+            let qto = old.first[q as usize + 1];
+            let pfrom = old.first[p as usize];
+            let pto = old.first[p as usize + 1];
+            end_pair(old, qfrom, qto, pfrom, pto, side, k, leaves, state)
+        }
     }
-    (tag - 4) as u8
-}
-
-// The records of the state that a stored key names. `first` says where the rows of each old state begin.
-fn end_state(
-    src: &[u16],
-    choices: &[u32],
-    numbers: &[i32],
-    first: &[u16],
-    key: u64,
-    k: u8,
-    rows: &mut [u16],
-    masks: &mut [u32],
-    coefs: &mut [i32],
-    done: Ending,
-    most: u16,
-    state: u16,
-) -> Ending
-    requires leaf_key { LeafKey src.now choices.now numbers.now first.now k key }
-    requires lent { Lent rows.old masks.old coefs.old most done }
-    ensures { Ended rows.old masks.old coefs.old done most
-        (numbering.rows state (ends_of src.now choices.now numbers.now first.now key))
-        rows.new masks.new coefs.new result }
-{
-    let tag = key / 65536 / 65536;
-    let q = (key / 65536 % 65536) as usize;
-    let from = first[q];
-    let to = first[q + 1];
-    if (tag == 2) | (tag == 3) {
-        let p = (key % 65536) as usize;
-        return end_pair(
-            src,
-            choices,
-            numbers,
-            from,
-            to,
-            first[p],
-            first[p + 1],
-            tag == 3,
-            k,
-            rows,
-            masks,
-            coefs,
-            done,
-            most,
-            state,
-        );
-    }
-    let shift = shift_of(tag);
-    end_single(
-        src, choices, numbers, from, to, shift, k, rows, masks, coefs, done, most, state,
-    )
 }
 
 // The LF records of a last level whose states are the first `count` keys of `cur`, numbered from `base` on.
 pub fn end_level(
-    src: &[u16],
-    choices: &[u32],
-    numbers: &[i32],
-    first: &[u16],
+    old: &Table,
     cur: &[u64],
     count: u16,
     base: u16,
     k: u8,
-    rows: &mut [u16],
-    masks: &mut [u32],
-    coefs: &mut [i32],
-    done: Ending,
-    most: u16,
-) -> Ending
+    leaves: &mut NewLeaves,
+) -> Option<()>
     requires count_in_bounds { (count ≤ length cur.now) × (base + count < 65536) }
-    requires by_index { (i : ℕ) → i < count → LeafKey src.now choices.now numbers.now first.now k (get_or cur.now i 0) }
-    requires lent { Lent rows.old masks.old coefs.old most done }
-    ensures { Ended rows.old masks.old coefs.old done most
-        (numbering.all_rows (ends_of src.now choices.now numbers.now first.now) base (take count cur.now))
-        rows.new masks.new coefs.new result }
+    requires by_index { (i : ℕ) → i < count → LeafKey old.now.rows.now old.now.masks.now old.now.coefs.now old.now.first.now k (get_or cur.now i 0) }
+    requires lent { LentIn leaves.old }
+    ensures ended { EndedIn leaves.old
+        (numbering.all_rows (ends_of old.now.rows.now old.now.masks.now old.now.coefs.now old.now.first.now) base (take count cur.now))
+        leaves.new result }
+    ensures same_rows { leaves.new.rows.ghost_name ≡ leaves.old.rows.ghost_name }
+    ensures same_masks { leaves.new.masks.ghost_name ≡ leaves.old.masks.ghost_name }
+    ensures same_coefs { leaves.new.coefs.ghost_name ≡ leaves.old.coefs.ghost_name }
 {
-    let mut d = done;
-    let mut i: u16 = 0;
-    while (i < count) & d.ok {
-        d = end_state(
-            src,
-            choices,
-            numbers,
-            first,
-            cur[i as usize],
-            k,
-            rows,
-            masks,
-            coefs,
-            d,
-            most,
-            base + i,
-        );
-        i += 1;
+    for i in 0..count {
+        end_state(old, cur[i as usize], k, leaves, base + i)?;
     }
-    d
+    Some(())
 }

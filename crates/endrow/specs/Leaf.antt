@@ -1,6 +1,7 @@
 -- The table that the leaves are read from: the amplitudes that its rows name, and what a pair makes of two.
-use Rattle.std.specs.Prelude.{◌≡◌, Bool, true, false, List, ℕ, ◌+◌, ◌*◌, ◌≤◌, ℤ, length}
+use Rattle.std.specs.Prelude.{◌≡◌, true, List, ℕ, ◌+◌, ◌*◌, ◌≤◌, ℤ, length}
 use Rattle.amplitude.specs.Amp.{Amp, ◌⊕◌, ◌⊖◌, in_range_a}
+use Rattle.gates.specs.Key.{Side, L, R}
 use Rattle.tables.specs.Table.{row_width, leaf_width}
 use Rattle.lookup.specs.Lookup.{pair_row}
 use Rattle.leafrows.specs.Row.{row_amp}
@@ -10,9 +11,9 @@ abbrev pub leaf_amp : List ℕ → List ℤ → ℕ → Amp
 leaf_amp rows coefs i = row_amp coefs (pair_row rows i).0
 
 -- "A+B under L, A−B under R"
-abbrev pub pair_amp : Bool → Amp → Amp → Amp
-pair_amp false x y = x ⊕ y
-pair_amp true x y = x ⊖ y
+abbrev pub pair_amp : Side → Amp → Amp → Amp
+pair_amp L x y = x ⊕ y
+pair_amp R x y = x ⊖ y
 
 -- row i is there, and what it names is there and in range
 pub record Readable (rows : List ℕ) (coefs : List ℤ) (i : ℕ) : Type 0 where

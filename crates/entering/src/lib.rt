@@ -3,292 +3,165 @@
 // they are counted in one step.
 #![tactic(auto)]
 
-ghost use Rattle.std.specs.Prelude.{◌≡◌, List, ◌∷◌, ℕ, ◌+◌, ◌<◌, length, get_or};
+ghost use Rattle.std.specs.Prelude.{◌≡◌, List, ◌∷◌, ℕ, ◌+◌, ◌<◌, get_or};
 ghost use Rattle.automata.specs.Choice.{choices_most};
-ghost use Rattle.matching.specs.Levels.{start_of};
-ghost use Rattle.remembering.specs.Memory.{Memory};
+ghost use Rattle.remembering.specs.Slots.{SameSizes};
+ghost use Rattle.walking.specs.On.{passes_on, trees_on, branch_on, visit_on, root_on};
 ghost use Rattle.walking.specs.Tallied.{tallied};
-ghost use Rattle.walking.specs.Walk.{passes_in, trees_by, members_by, branch_of, visit_of, root_of};
-ghost use Rattle.blocks.specs.Good.{good};
-ghost use Rattle.blocks.specs.Block.{row_cells, Entered, Started, Strode};
+ghost use Rattle.walking.specs.Walk.{members_by};
+ghost use Rattle.outcomes.specs.On.{SameRows};
+ghost use Rattle.entering.specs.On.{MemoryOn, StartedOn, EnteredOn, StrodeOn};
 
-use batching::batch;
+use batching::{Step, batch};
 use judging::begin_from;
 use masks::next_choice;
 use matching::next_level;
 use meeting::Level;
-use outcomes::{CELLS, Outcome, finish, remember, skip};
-use reaching::{reach, reach_next, reach_none, reached_choices};
-use remembering::find;
-use walking::{Tally, stopped};
+use outcomes::{Outcome, Place, Walk, finish, remember, skip};
+use reaching::{reach, reach_next, reach_none};
+use remembering::Slots;
+use walking::{Tally, Task, stopped};
 
-// The members whose words go on with choice c on level at + 1, where `left` qubits are left.
+// The members whose words go on from the block with choice c.
 #[cycle(branch_descend_enter_visit)]
 fn branch(
-    n: u8,
-    left: u8,
-    at: u8,
-    rows: &[u16],
-    masks: &[u32],
-    coefs: &[i32],
-    counts: &[u16],
-    first: &[u16],
-    endrows: &[u16],
-    endmasks: &[u32],
-    endcoefs: &[i32],
-    endcounts: &[u16],
-    endfirst: &[u16],
-    free: &[u32],
-    may: &mut [u32],
-    met: &mut [u32],
-    stack: &mut [u32],
-    kept: &mut [u32],
-    hints: &mut [u8],
-    seen: &mut [u32],
-    sizes: &mut [u8],
-    turn: &mut [u8],
-    reached: &mut [u8],
-    wide: u16,
-    plane: u16,
-    room: u16,
-    slots: u16,
-    p: u16,
-    b: u32,
+    task: &Task,
+    walk: &mut Walk,
+    slots: &mut Slots,
+    place: Place,
     root: u16,
-    level: Level,
     c: u8,
     word: [u8; 21],
     t: Tally,
 ) -> Outcome
-    requires { Entered rows.now masks.now coefs.now counts.now first.now endrows.now endmasks.now endcoefs.now endcounts.now endfirst.now wide plane room slots n at left p level root word stack.old seen.old sizes.old hints.old kept.old (length free.now) (length may.old) (length met.old) (length turn.old) (length reached.old) × (c < choices_most) }
-    ensures { (result.tally ≡ tallied (passes_in rows.now masks.now coefs.now first.now endrows.now endmasks.now endcoefs.now endcounts.now endfirst.now n) b t (branch_of rows.now masks.now coefs.now first.now root word at left reached.old level.from level.to c)) × Strode rows.now masks.now coefs.now counts.now first.now endrows.now endmasks.now endcoefs.now endcounts.now endfirst.now wide plane room slots n at left p level reached.old stack.old c (c + 1) result.clean reached.new stack.new seen.new sizes.new hints.new kept.new }
+    requires entered { EnteredOn task.now walk.old slots.old place root word }
+    requires choice { c < choices_most }
+    ensures tally { result.tally ≡ tallied (passes_on task.now) task.now.allowance t (branch_on task.now root word place.at place.left walk.old.reached.now place.level.from place.level.to c) }
+    ensures strode { StrodeOn task.now place walk.old walk.new slots.old.count slots.new c (c + 1) result.clean }
+    ensures rows { SameRows walk.old walk.new }
+    ensures sizes { SameSizes slots.old slots.new }
 {
     let mut longer = word;
-    longer[at as usize] = c;
-    if left == 0 {
-        return finish(
-            n, rows, masks, coefs, counts, first, endrows, endmasks, endcoefs, endcounts, endfirst,
-            may, met, stack, reached, wide, plane, room, p, b, root, level, c, longer, t,
-        );
+    longer[place.at as usize] = c;
+    if place.left == 0 {
+        return finish(task, walk, place, root, c, longer, t);
     }
-    descend(
-        n, left, at, rows, masks, coefs, counts, first, endrows, endmasks, endcoefs, endcounts,
-        endfirst, free, may, met, stack, kept, hints, seen, sizes, turn, reached, wide, plane,
-        room, slots, p, b, root, level, c, longer, t,
-    )
+    descend(task, walk, slots, place, root, c, longer, t)
 }
 
 // The same on a level that is not the last, with the word's choice in its place: the block of the next level.
 #[cycle(branch_descend_enter_visit)]
 fn descend(
-    n: u8,
-    left: u8,
-    at: u8,
-    rows: &[u16],
-    masks: &[u32],
-    coefs: &[i32],
-    counts: &[u16],
-    first: &[u16],
-    endrows: &[u16],
-    endmasks: &[u32],
-    endcoefs: &[i32],
-    endcounts: &[u16],
-    endfirst: &[u16],
-    free: &[u32],
-    may: &mut [u32],
-    met: &mut [u32],
-    stack: &mut [u32],
-    kept: &mut [u32],
-    hints: &mut [u8],
-    seen: &mut [u32],
-    sizes: &mut [u8],
-    turn: &mut [u8],
-    reached: &mut [u8],
-    wide: u16,
-    plane: u16,
-    room: u16,
-    slots: u16,
-    p: u16,
-    b: u32,
+    task: &Task,
+    walk: &mut Walk,
+    slots: &mut Slots,
+    place: Place,
     root: u16,
-    level: Level,
     c: u8,
     word: [u8; 21],
     t: Tally,
 ) -> Outcome
-    requires { Entered rows.now masks.now coefs.now counts.now first.now endrows.now endmasks.now endcoefs.now endcounts.now endfirst.now wide plane room slots n at left p level root word stack.old seen.old sizes.old hints.old kept.old (length free.now) (length may.old) (length met.old) (length turn.old) (length reached.old) × (c < choices_most) × (get_or word at 0 ≡ c) × (left ≡ 0 → ⊥) }
-    ensures { (result.tally ≡ tallied (passes_in rows.now masks.now coefs.now first.now endrows.now endmasks.now endcoefs.now endcounts.now endfirst.now n) b t (members_by root word (at + 1) left (λ (v : List ℕ). trees_by rows.now masks.now coefs.now first.now at left reached.old level.from level.to (c ∷ v)))) × Strode rows.now masks.now coefs.now counts.now first.now endrows.now endmasks.now endcoefs.now endcounts.now endfirst.now wide plane room slots n at left p level reached.old stack.old c (c + 1) result.clean reached.new stack.new seen.new sizes.new hints.new kept.new }
+    requires entered { EnteredOn task.now walk.old slots.old place root word }
+    requires choice { c < choices_most }
+    requires letter { get_or word place.at 0 ≡ c }
+    requires some { place.left ≡ 0 → ⊥ }
+    ensures tally { result.tally ≡ tallied (passes_on task.now) task.now.allowance t (members_by root word (place.at + 1) place.left (λ (v : List ℕ). trees_on task.now place.at place.left walk.old.reached.now place.level.from place.level.to (c ∷ v))) }
+    ensures strode { StrodeOn task.now place walk.old walk.new slots.old.count slots.new c (c + 1) result.clean }
+    ensures rows { SameRows walk.old walk.new }
+    ensures sizes { SameSizes slots.old slots.new }
 {
-    let next = next_level(counts, endcounts, at, level);
+    let level = place.level;
+    let next = next_level(&task.sides, place.at, level);
     if !reach_next(
-        rows, masks, first, reached, c, level.from, level.to, next.to,
+        &task.sides.image,
+        walk.reached,
+        c,
+        level.from,
+        level.to,
+        next.to,
     ) {
         return Outcome {
             tally: t,
             clean: true,
         };
     }
-    let below = batch(
-        rows, masks, first, endrows, endmasks, endfirst, stack, plane, room, p, wide, free, met, c,
-        0, level, next,
-    );
-    enter(
-        n,
-        left - 1,
-        at + 1,
-        rows,
-        masks,
-        coefs,
-        counts,
-        first,
-        endrows,
-        endmasks,
-        endcoefs,
-        endcounts,
-        endfirst,
-        free,
-        may,
-        met,
-        stack,
-        kept,
-        hints,
-        seen,
-        sizes,
-        turn,
-        reached,
-        wide,
-        plane,
-        room,
-        slots,
-        below.count,
-        b,
-        root,
+    let step = Step {
+        sides: task.sides,
+        may: task.free,
+        c,
+        level,
         next,
-        word,
-        t,
-    )
+        plane: task.plane,
+        room: task.room,
+    };
+    let below = batch(&step, walk.stack, place.p, walk.met, 0);
+    let there = Place {
+        at: place.at + 1,
+        left: place.left - 1,
+        level: next,
+        p: below.count,
+    };
+    enter(task, walk, slots, there, root, word, t)
 }
 
 // The members whose words go on from a block: all at once if the block is remembered.
 #[cycle(branch_descend_enter_visit)]
 fn enter(
-    n: u8,
-    left: u8,
-    at: u8,
-    rows: &[u16],
-    masks: &[u32],
-    coefs: &[i32],
-    counts: &[u16],
-    first: &[u16],
-    endrows: &[u16],
-    endmasks: &[u32],
-    endcoefs: &[i32],
-    endcounts: &[u16],
-    endfirst: &[u16],
-    free: &[u32],
-    may: &mut [u32],
-    met: &mut [u32],
-    stack: &mut [u32],
-    kept: &mut [u32],
-    hints: &mut [u8],
-    seen: &mut [u32],
-    sizes: &mut [u8],
-    turn: &mut [u8],
-    reached: &mut [u8],
-    wide: u16,
-    plane: u16,
-    room: u16,
-    slots: u16,
-    p: u16,
-    b: u32,
+    task: &Task,
+    walk: &mut Walk,
+    slots: &mut Slots,
+    place: Place,
     root: u16,
-    level: Level,
     word: [u8; 21],
     t: Tally,
 ) -> Outcome
-    requires { Entered rows.now masks.now coefs.now counts.now first.now endrows.now endmasks.now endcoefs.now endcounts.now endfirst.now wide plane room slots n at left p level root word stack.old seen.old sizes.old hints.old kept.old (length free.now) (length may.old) (length met.old) (length turn.old) (length reached.old) }
-    ensures { (result.tally ≡ tallied (passes_in rows.now masks.now coefs.now first.now endrows.now endmasks.now endcoefs.now endcounts.now endfirst.now n) b t (visit_of rows.now masks.now coefs.now first.now root word at left reached.old level.from level.to)) × Strode rows.now masks.now coefs.now counts.now first.now endrows.now endmasks.now endcoefs.now endcounts.now endfirst.now wide plane room slots n at left p level reached.old stack.old 0 choices_most result.clean reached.new stack.new seen.new sizes.new hints.new kept.new }
+    requires { EnteredOn task.now walk.old slots.old place root word }
+    ensures tally { result.tally ≡ tallied (passes_on task.now) task.now.allowance t (visit_on task.now root word place.at place.left walk.old.reached.now place.level.from place.level.to) }
+    ensures strode { StrodeOn task.now place walk.old walk.new slots.old.count slots.new 0 choices_most result.clean }
+    ensures rows { SameRows walk.old walk.new }
+    ensures sizes { SameSizes slots.old slots.new }
 {
-    let known = find(
-        at, level.from, level.to, p, reached, stack, wide, plane, room, CELLS, slots, kept, hints,
-        seen, sizes,
-    );
-    if known != 0 {
-        let tally = skip(b, t, known - 1);
+    if let Some(known) = slots.find(place.at, &walk.block(task, place)) {
+        let tally = skip(task.allowance, t, known);
         return Outcome { tally, clean: true };
     }
-    let r = visit(
-        n, left, at, rows, masks, coefs, counts, first, endrows, endmasks, endcoefs, endcounts,
-        endfirst, free, may, met, stack, kept, hints, seen, sizes, turn, reached, wide, plane,
-        room, slots, p, b, root, level, word, t,
-    );
-    remember(
-        at, p, reached, stack, wide, plane, room, slots, level, t.count, r, kept, hints, seen,
-        sizes, turn,
-    );
+    let r = visit(task, walk, slots, place, root, word, t);
+    remember(slots, place.at, &walk.block(task, place), t.count, r);
     r
 }
 
 // The members whose words go on from a block, choice after choice: those only that all states reached have.
 #[cycle(branch_descend_enter_visit)]
 fn visit(
-    n: u8,
-    left: u8,
-    at: u8,
-    rows: &[u16],
-    masks: &[u32],
-    coefs: &[i32],
-    counts: &[u16],
-    first: &[u16],
-    endrows: &[u16],
-    endmasks: &[u32],
-    endcoefs: &[i32],
-    endcounts: &[u16],
-    endfirst: &[u16],
-    free: &[u32],
-    may: &mut [u32],
-    met: &mut [u32],
-    stack: &mut [u32],
-    kept: &mut [u32],
-    hints: &mut [u8],
-    seen: &mut [u32],
-    sizes: &mut [u8],
-    turn: &mut [u8],
-    reached: &mut [u8],
-    wide: u16,
-    plane: u16,
-    room: u16,
-    slots: u16,
-    p: u16,
-    b: u32,
+    task: &Task,
+    walk: &mut Walk,
+    slots: &mut Slots,
+    place: Place,
     root: u16,
-    level: Level,
     word: [u8; 21],
     t: Tally,
 ) -> Outcome
-    requires { Entered rows.now masks.now coefs.now counts.now first.now endrows.now endmasks.now endcoefs.now endcounts.now endfirst.now wide plane room slots n at left p level root word stack.old seen.old sizes.old hints.old kept.old (length free.now) (length may.old) (length met.old) (length turn.old) (length reached.old) }
-    ensures { (result.tally ≡ tallied (passes_in rows.now masks.now coefs.now first.now endrows.now endmasks.now endcoefs.now endcounts.now endfirst.now n) b t (visit_of rows.now masks.now coefs.now first.now root word at left reached.old level.from level.to)) × Strode rows.now masks.now coefs.now counts.now first.now endrows.now endmasks.now endcoefs.now endcounts.now endfirst.now wide plane room slots n at left p level reached.old stack.old 0 choices_most result.clean reached.new stack.new seen.new sizes.new hints.new kept.new }
+    requires { EnteredOn task.now walk.old slots.old place root word }
+    ensures tally { result.tally ≡ tallied (passes_on task.now) task.now.allowance t (visit_on task.now root word place.at place.left walk.old.reached.now place.level.from place.level.to) }
+    ensures strode { StrodeOn task.now place walk.old walk.new slots.old.count slots.new 0 choices_most result.clean }
+    ensures rows { SameRows walk.old walk.new }
+    ensures sizes { SameSizes slots.old slots.new }
 {
-    let shared = reached_choices(masks, first, reached, level.from, level.to);
+    let shared = walk.choices(task, place.level);
     let mut so_far = t;
     let mut clean = true;
-    let mut c = next_choice(shared, 0);
-    while c < 32 {
+    let mut from = 0;
+    while let Some(c) = next_choice(shared, from) {
         if stopped(so_far) {
             return Outcome {
                 tally: so_far,
                 clean: false,
             };
         }
-        let r = branch(
-            n, left, at, rows, masks, coefs, counts, first, endrows, endmasks, endcoefs, endcounts,
-            endfirst, free, may, met, stack, kept, hints, seen, sizes, turn, reached, wide, plane,
-            room, slots, p, b, root, level, c, word, so_far,
-        );
-        let tally = r.tally;
-        so_far = tally;
+        let r = branch(task, walk, slots, place, root, c, word, so_far);
+        so_far = r.tally;
         clean = clean & r.clean;
-        c = next_choice(shared, c + 1);
+        from = c + 1;
     }
     Outcome {
         tally: so_far,
@@ -297,83 +170,39 @@ fn visit(
 }
 
 // The members of one root.
-pub fn visit_root(
-    n: u8,
-    rows: &[u16],
-    masks: &[u32],
-    coefs: &[i32],
-    counts: &[u16],
-    first: &[u16],
-    endrows: &[u16],
-    endmasks: &[u32],
-    endcoefs: &[i32],
-    endcounts: &[u16],
-    endfirst: &[u16],
-    free: &[u32],
-    may: &mut [u32],
-    met: &mut [u32],
-    stack: &mut [u32],
-    kept: &mut [u32],
-    hints: &mut [u8],
-    seen: &mut [u32],
-    sizes: &mut [u8],
-    turn: &mut [u8],
-    reached: &mut [u8],
-    wide: u16,
-    plane: u16,
-    room: u16,
-    slots: u16,
-    b: u32,
-    root: u16,
-    t: Tally,
-) -> Tally
-    requires { Started rows.now masks.now coefs.now counts.now first.now endrows.now endmasks.now endcoefs.now endcounts.now endfirst.now wide plane room slots n seen.old sizes.old hints.old kept.old (length free.now) (length may.old) (length met.old) (length stack.old) (length turn.old) (length reached.old) × (root < get_or counts.now 0 0) }
-    ensures { (result ≡ tallied (passes_in rows.now masks.now coefs.now first.now endrows.now endmasks.now endcoefs.now endcounts.now endfirst.now n) b t (root_of rows.now masks.now coefs.now first.now n root)) × Memory wide plane room row_cells slots (start_of counts.now) (good rows.now masks.now coefs.now counts.now first.now endrows.now endmasks.now endcoefs.now endcounts.now endfirst.now wide plane n) seen.new sizes.new hints.new kept.new }
+pub fn visit_root(task: &Task, walk: &mut Walk, slots: &mut Slots, root: u16, t: Tally) -> Tally
+    requires started { StartedOn task.now walk.old slots.old }
+    requires rooted { root < get_or task.now.sides.image.counts.now 0 0 }
+    ensures tally { result ≡ tallied (passes_on task.now) task.now.allowance t (root_on task.now root) }
+    ensures memory { MemoryOn task.now slots.new }
+    ensures rows { SameRows walk.old walk.new }
+    ensures sizes { SameSizes slots.old slots.new }
 {
     let level = Level {
         from: 0,
-        to: counts[0],
+        to: task.sides.image.counts[0],
         start: 0,
-        stop: endcounts[0],
+        stop: task.sides.end.counts[0],
     };
-    reach_none(reached, 0, level.to);
-    reach(reached, root);
-    let start = begin_from(stack, plane, room, wide, free, met, root, 0, level);
-    let r = visit(
-        n,
-        n,
-        0,
-        rows,
-        masks,
-        coefs,
-        counts,
-        first,
-        endrows,
-        endmasks,
-        endcoefs,
-        endcounts,
-        endfirst,
-        free,
-        may,
-        met,
-        stack,
-        kept,
-        hints,
-        seen,
-        sizes,
-        turn,
-        reached,
-        wide,
-        plane,
-        room,
-        slots,
-        start.count,
-        b,
+    reach_none(walk.reached, 0, level.to);
+    reach(walk.reached, root);
+    let start = begin_from(
+        walk.stack,
+        task.plane,
+        task.room,
+        task.sides.wide,
+        task.free,
+        walk.met,
         root,
+        0,
         level,
-        [0; 21],
-        t,
     );
-    let tally = r.tally;
-    tally
+    let place = Place {
+        at: 0,
+        left: task.n,
+        level,
+        p: start.count,
+    };
+    let r = visit(task, walk, slots, place, root, [0; 21], t);
+    r.tally
 }

@@ -1,5 +1,5 @@
 -- Times √2 at most doubles the size of a coefficient, and twice √2 is doubling: d steps double the bound (d + 1) / 2 times. Assumes nothing.
-use mathlib.Core.Path.{◌≡◌}
+use mathlib.Core.Path.{◌≡◌, ap}
 use Prim.Native.Nat.{ℕ, zero, suc, ◌+◌, ◌*◌, ◌/◌, ◌^◌, ◌≤◌}
 use native.Mathlib.Nat.{pow-suc, pow-le-pow_right, mul-le-mul_left}
 use native.Mathlib.Omega.{arith}
@@ -29,6 +29,10 @@ within-√2 m (amp a b c d) (p, q, r, s) = (
 -- two steps more are a doubling
 pub two_steps : (d : ℕ) (x : Amp) → √2^ (suc (suc d)) x ≡ √2^ d x ⊕ √2^ d x
 two_steps d x = √2_twice (√2^ d x)
+
+-- as many steps as one likes to write
+pub as-often : (x : Amp) (m n : ℕ) → m ≡ n → √2^ m x ≡ √2^ n x
+as-often x m n e = ap (λ (d : ℕ). √2^ d x) e
 
 -- the bound after d steps
 abbrev bound : ℕ → ℕ

@@ -10,8 +10,9 @@ ghost use Rattle.equality.specs.Wide.{wide_is, wide_most};
 
 use leafrows::Amplitude;
 
-// Four numbers of 64 bits.
-#[derive(Clone, Copy)]
+// Four numbers of 64 bits. An amplitude has four of 32: what is stored and what is compared are two types with a From, since one generic type would need
+// a From between two of its own instances.
+#[derive(Clone, Copy, PartialEq, Eq)]
 pub struct Wide {
     pub a: i64,
     pub b: i64,
@@ -19,22 +20,17 @@ pub struct Wide {
     pub d: i64,
 }
 
-// A number of 32 bits in 64.
-fn wide_number(z: i32) -> i64
-    ensures { result ≡ z }
-{
-    z as i64
-}
-
 // An amplitude in 64 bits.
-fn widened(x: Amplitude) -> Wide
-    ensures { wide_is result ≡ amp_is x }
-{
-    Wide {
-        a: wide_number(x.a),
-        b: wide_number(x.b),
-        c: wide_number(x.c),
-        d: wide_number(x.d),
+impl From<Amplitude> for Wide {
+    ghost from_gives = { λ x w. wide_is w ≡ amp_is x };
+
+    fn from(x: Amplitude) -> Self {
+        Wide {
+            a: i64::from(x.a),
+            b: i64::from(x.b),
+            c: i64::from(x.c),
+            d: i64::from(x.d),
+        }
     }
 }
 
@@ -85,12 +81,9 @@ pub fn raised(x: Amplitude, d: u8) -> Wide
     requires { InRange x × (d ≤ k_most) }
     ensures { wide_is result ≡ √2^ d (amp_is x) }
 {
-    let mut product = widened(x);
-    let pairs = d / 2;
-    let mut done: u8 = 0;
-    while done < pairs {
+    let mut product = Wide::from(x);
+    for _ in 0..d / 2 {
         product = doubled(product);
-        done += 1;
     }
     if d % 2 == 1 {
         times_root(product)
@@ -99,33 +92,10 @@ pub fn raised(x: Amplitude, d: u8) -> Wide
     }
 }
 
-fn same_number(x: i64, y: i64) -> bool
-    ensures { result ≡ same_z x y }
-{
-    x == y
-}
-
-// "the same four numbers"
-fn same_numbers(x: Wide, y: Wide) -> bool
-    ensures { result ≡ same_a (wide_is x) (wide_is y) }
-{
-    same_number(x.a, y.a)
-        & (same_number(x.b, y.b) & (same_number(x.c, y.c) & same_number(x.d, y.d)))
-}
-
-// How much l is over k, 0 where it is not.
-fn over(l: u8, k: u8) -> u8
-    ensures { result ≡ l - k }
-{
-    if k < l { l - k } else { 0 }
-}
-
 // The leaves with the numbers x at k, and y at l, are equal.
 pub fn same(k: u8, x: Amplitude, l: u8, y: Amplitude) -> bool
     requires { (k ≤ k_most) × InRange x × (l ≤ k_most) × InRange y }
     ensures { result ≡ same (leaf k (amp_is x)) (leaf l (amp_is y)) }
 {
-    let first = raised(x, over(l, k));
-    let second = raised(y, over(k, l));
-    same_numbers(first, second)
+    raised(x, l.saturating_sub(k)) == raised(y, k.saturating_sub(l))
 }

@@ -2,41 +2,48 @@
 // the record itself are there, and looks at no mark.
 #![tactic(auto)]
 
-ghost use Rattle.std.specs.Prelude.{◌≡◌, ◌+◌, ◌≤◌, length};
+ghost use Rattle.std.specs.Prelude.{◌≡◌, ◌+◌, ◌≤◌, length, unwrap_or};
 ghost use Rattle.amplitude.specs.Amp.{in_range, in_range_a};
 ghost use Rattle.stored.specs.Form.{form_of, set_of, tr_size, lf_size, tr_at, lf_at};
 ghost use Rattle.stored.specs.Rules.{tr_fault, lf_ok};
 ghost use Rattle.records.specs.Read.{amp_of};
 ghost use Rattle.levels.specs.Levelled.{Levelled};
-ghost use Rattle.faults.specs.Fault.{fault_of};
+ghost use Rattle.faults.specs.Fault.{fault_of, reason_of};
 
 use levels::level_of;
 use records::{Lf, lf_at, tr_at};
+use refusals::Reason;
 
-// The first thing wrong with a TR record, from the levels of its state and of its children: 1 its state, 2 its left child, 3 its right child,
-// 4 its mask; 0 for nothing.
-fn fault_of(n: u8, own: u16, left: u16, right: u16, mask: u32) -> u8
-    ensures { result ≡ fault_of n own left right mask }
+// The first thing wrong with a TR record, from the levels of its state and of its children, where they are on one.
+fn fault_of(
+    n: u8,
+    own: Option<u16>,
+    left: Option<u16>,
+    right: Option<u16>,
+    mask: u32,
+) -> Option<Reason>
+    ensures { result ≡ reason_of (fault_of n (unwrap_or own (n + 2)) (unwrap_or left (n + 2)) (unwrap_or right (n + 2)) mask) }
 {
-    if own > n as u16 {
-        return 1;
+    let next = match own {
+        Some(level) if level <= u16::from(n) => Some(level + 1),
+        _ => return Some(Reason::State),
+    };
+    if left != next {
+        return Some(Reason::LeftChild);
     }
-    if left != own + 1 {
-        return 2;
-    }
-    if right != own + 1 {
-        return 3;
+    if right != next {
+        return Some(Reason::RightChild);
     }
     if mask == 0 {
-        return 4;
+        return Some(Reason::EmptyMask);
     }
-    0
+    None
 }
 
-// Rule 8 of the TR record at a place: what is wrong with it, numbered as in `fault_of`.
-pub fn tr_fault(s: &[u8], n: u8, at: usize) -> u8
+// Rules 81 to 84 of the TR record at a place: which of them it breaks first, if any.
+pub fn tr_fault(s: &[u8], n: u8, at: usize) -> Option<Reason>
     requires { Levelled s.now n × (at + tr_size ≤ length s.now) }
-    ensures { result ≡ tr_fault (set_of s.now) (tr_at s.now at) }
+    ensures { result ≡ reason_of (tr_fault (set_of s.now) (tr_at s.now at)) }
 {
     let t = tr_at(s, at);
     let own = level_of(s, n, t.state);
@@ -67,5 +74,5 @@ pub fn lf_ok(s: &[u8], n: u8, at: usize) -> bool
     let l = lf_at(s, at);
     let own = level_of(s, n, l.state);
     let range = amp_ok(l);
-    (own == n as u16 + 1) & ((l.mask != 0) & range)
+    (own == Some(u16::from(n) + 1)) & ((l.mask != 0) & range)
 }

@@ -11,8 +11,8 @@ use Rattle.amplitude.specs.Leaf.{Leaf, leaf, same}
 use Rattle.automata.specs.Choice.{choose}
 use Rattle.verdict.specs.Search.{same_leaves}
 use Rattle.tables.specs.Table.{leaf_row}
-use Rattle.lookup.specs.declared.Found.{Found}
-use Rattle.lookup.specs.declared.Found.TheVariants.{Row, Nothing}
+use Rattle.std.specs.declared.option.Option.{Option as Answer}
+use Rattle.std.specs.declared.option.Option.TheVariants.{Some, None}
 use Rattle.lookup.specs.Lookup.{transition_row, pair_row, leaf_of, is_some}
 use Rattle.lookup.specs.Answer.{found}
 use Rattle.lookup.specs.Alts.{leaf_alts, ends_in}
@@ -34,12 +34,12 @@ pub record Leafed (rows masks : List ℕ) (coefs : List ℤ) (first : List ℕ) 
   pub before : i < get_or first (s + 1) 0
   pub is : choose c (ends_in rows masks coefs first s) ≡ some (leaf_of rows coefs i)
 
-module _ (rows masks : List ℕ) (coefs : List ℤ) (first : List ℕ) (s c : ℕ) {a : Found} (e : a ≡ found (transition_row masks first s c)) where
-  pub leafed : (i : ℕ) → a ≡ Row i → Leafed rows masks coefs first c s i
+module _ (rows masks : List ℕ) (coefs : List ℤ) (first : List ℕ) (s c : ℕ) {a : Answer ℕ} (e : a ≡ found (transition_row masks first s c)) where
+  pub leafed : (i : ℕ) → a ≡ Some i → Leafed rows masks coefs first c s i
   unfolding leaf_alts
   leafed i r = let t = taken (leaf_of rows coefs) masks first s c e i r in record { after = t.after; before = t.before; is = t.is }
 
-  pub leafless : a ≡ Nothing → choose c (ends_in rows masks coefs first s) ≡ none
+  pub leafless : a ≡ None → choose c (ends_in rows masks coefs first s) ≡ none
   unfolding leaf_alts
   leafless r = not_taken (leaf_of rows coefs) masks first s c e r
 

@@ -6,7 +6,7 @@ use native.Mathlib.Numerals.{add-one}
 use native.Mathlib.Omega.{arith}
 use Rattle.automata.specs.Choice.{has}
 use Rattle.automata.specs.Members.{up_to}
-use Rattle.masks.specs.Next.{NextChoice}
+use Rattle.masks.specs.Next.{FirstFrom, NoneFrom}
 use Rattle.verdict.specs.Search.{fits_one}
 
 module _ (f : ℕ → Bool) (most i : ℕ) where
@@ -33,9 +33,16 @@ module _ (f : ℕ → Bool) (most : ℕ) where
       ap (λ (x : ℕ). fits_one f (up_to x (most - x))) e ∙ try_on f most (i + k) (omega arith) (none (i + k) (omega arith) (omega arith))
       ∙ passed_over i k (omega arith) (λ b lo hi. none b lo (omega arith))
 
-pub try_next : (f : ℕ → Bool) {mask i j : ℕ} → NextChoice mask i j → ((b : ℕ) → b < 32 → has mask b ≡ false → f b ≡ false) → fits_one f (up_to j (32 - j)) ≡ fits_one f (up_to i (32 - i))
-try_next f {mask} {i} {j} n none =
-    let a = n.after in
-    let m = n.most in
-    let e : i + (j - i) ≡ j = omega arith in
-    ap (λ (x : ℕ). fits_one f (up_to x (32 - x))) (sym e) ∙ passed_over f 32 i (j - i) (omega arith) (λ b lo hi. none b (omega arith) (n.skipped b lo (omega arith)))
+module _ (f : ℕ → Bool) {mask i : ℕ} (none : (b : ℕ) → b < 32 → has mask b ≡ false → f b ≡ false) where
+  pub try_next : {j : ℕ} → FirstFrom mask i j → fits_one f (up_to j (32 - j)) ≡ fits_one f (up_to i (32 - i))
+  try_next {j} n =
+      let a = n.after in
+      let m = n.below in
+      let e : i + (j - i) ≡ j = omega arith in
+      ap (λ (x : ℕ). fits_one f (up_to x (32 - x))) (sym e) ∙ passed_over f 32 i (j - i) (omega arith) (λ b lo hi. none b (omega arith) (n.skipped b lo (omega arith)))
+
+  pub try_end : i ≤ 32 → NoneFrom mask i → false ≡ fits_one f (up_to i (32 - i))
+  try_end h n =
+      let e : i + (32 - i) ≡ 32 = omega arith in
+      sym (try_none f 32 32 (omega arith)) ∙ ap (λ (x : ℕ). fits_one f (up_to x (32 - x))) (sym e)
+      ∙ passed_over f 32 i (32 - i) (omega arith) (λ b lo hi. none b (omega arith) (n.all b lo (omega arith)))

@@ -4,11 +4,13 @@ use Rattle.amplitude.specs.Amp.{in_range_a}
 use Rattle.amplitude.specs.Leaf.{k_most}
 use Rattle.automata.specs.Choice.{choose}
 use Rattle.verdict.specs.Search.{same_leaves}
+use Rattle.tables.specs.declared.Table.{Table}
 use Rattle.tables.specs.Table.{row_width, leaf_width}
 use Rattle.lookup.specs.Lookup.{pair_row}
 use Rattle.lookup.specs.Alts.{ends_in}
 use Rattle.leafrows.specs.Row.{row_amp}
 use Rattle.meeting.specs.declared.Level.{Level}
+use Rattle.meeting.specs.declared.Sides.{Sides}
 use Rattle.meeting.specs.Met.{There}
 
 -- both states have a leaf, and the two are equal
@@ -34,14 +36,21 @@ pub record PairLeaves (rows masks : List ℕ) (coefs : List ℤ) (first end_rows
   pub image : Leafy rows masks coefs first s
   pub ends : Leafy end_rows end_masks end_coefs end_first e
 
--- of image state s and of the end states from `start` up to below `stop`, whose pairs have their places in the row of marks
-pub record RowLeaves (rows masks : List ℕ) (coefs : List ℤ) (first end_rows end_masks : List ℕ) (end_coefs : List ℤ) (end_first : List ℕ) (wide size s start stop : ℕ) : Type 0 where
-  pub image : Leafy rows masks coefs first s
-  pub ends : (e : ℕ) → start ≤ e → e < stop → Leafy end_rows end_masks end_coefs end_first e
-  pub there : (e : ℕ) → start ≤ e → e < stop → There wide size s e
-
--- of all states of the level
+-- of all states of the level, whose pairs have their places in the row of marks
 pub record LeafStage (rows masks : List ℕ) (coefs : List ℤ) (first end_rows end_masks : List ℕ) (end_coefs : List ℤ) (end_first : List ℕ) (wide size : ℕ) (l : Level) : Type 0 where
   pub image : (s : ℕ) → l.from ≤ s → s < l.to → Leafy rows masks coefs first s
   pub ends : (e : ℕ) → l.start ≤ e → e < l.stop → Leafy end_rows end_masks end_coefs end_first e
   pub there : (s e : ℕ) → l.from ≤ s → s < l.to → l.start ≤ e → e < l.stop → There wide size s e
+
+-- ---- of a table, and of both
+abbrev pub LeafRowOn : Table → ℕ → Type 0
+LeafRowOn t i = LeafRow t.rows.now t.coefs.now i
+
+abbrev pub leaves_on : Sides → ℕ → ℕ → ℕ → ℕ → Bool
+leaves_on t c d s e = leaves_in t.image.rows.now t.image.masks.now t.image.coefs.now t.image.first.now t.end.rows.now t.end.masks.now t.end.coefs.now t.end.first.now c d s e
+
+abbrev pub PairLeavesOn : Sides → ℕ → ℕ → Type 0
+PairLeavesOn t s e = PairLeaves t.image.rows.now t.image.masks.now t.image.coefs.now t.image.first.now t.end.rows.now t.end.masks.now t.end.coefs.now t.end.first.now s e
+
+abbrev pub LeafStageOn : Sides → ℕ → Level → Type 0
+LeafStageOn t size l = LeafStage t.image.rows.now t.image.masks.now t.image.coefs.now t.image.first.now t.end.rows.now t.end.masks.now t.end.coefs.now t.end.first.now t.wide size l

@@ -34,9 +34,7 @@ pub fn clear_words(words: &mut [u32], from: usize, to: usize)
     requires { to ≤ length words.old }
     ensures { Cleared words.old from to words.new }
 {
-    let mut i = from;
-    while i < to {
-        words[i] = 0;
-        i += 1;
+    if from < to {
+        words[from..to].fill(0);
     }
 }

@@ -1,20 +1,18 @@
 -- A pair that could match by some choices has a row on either side, and the two fit: a scan of all rows finds them. Assumes nothing.
-use mathlib.Core.Path.{◌≡◌, refl, sym, ap, ◌∙◌, subst}
+use mathlib.Core.Path.{◌≡◌, refl, sym, ap, ◌∙◌}
 use mathlib.Core.Bool.{Bool, true, false, false≢true}
 use mathlib.Core.List.{List}
 use mathlib.Core.Option.{Option, none, some}
 use Prim.Native.Nat.{ℕ, ◌+◌, ◌<◌, ◌≤◌}
 use native.Mathlib.Omega.{arith}
 use lib.IntN.{ℤ}
-use lib.Dec.{eqb}
-use borrow.Author.Tests.{eqb-true, eqb-false}
 use Rattle.amplitude.specs.Leaf.{Leaf}
 use Rattle.automata.specs.Choice.{choose}
 use Rattle.lookup.specs.Alts.{ends_in}
 use Rattle.stepping.specs.Step.{move_in}
-use Rattle.hinting.specs.Hint.{EndFits, KidsMay, LeafHint, KidsHint, Hint}
+use Rattle.hinting.specs.Hint.{LeafHint, KidsHint, Hint}
 use Rattle.hinting.proofs.Hints.{leaf-taken, kids-taken, leaf-fits, kids-fit, no_leaf_hint, no_kids_hint}
-use Rattle.foreseeing.specs.Foresee.{RowFits, PairFits}
+use Rattle.foreseeing.specs.Foresee.{PairFits}
 
 module _ (rows masks : List ℕ) (coefs : List ℤ) (first end_rows end_masks : List ℕ) (end_coefs : List ℤ) (end_first : List ℕ) (c wide : ℕ) (may : List ℕ) (s e : ℕ) where
   leaf-pair : LeafHint rows masks coefs first end_rows end_masks end_coefs end_first c s e → PairFits true rows coefs first end_rows end_coefs end_first wide may s e
@@ -38,21 +36,3 @@ module _ (rows masks : List ℕ) (coefs : List ℤ) (first end_rows end_masks : 
   pub pair_fits : (last : Bool) → Hint last rows masks coefs first end_rows end_masks end_coefs end_first c wide may s e → PairFits last rows coefs first end_rows end_coefs end_first wide may s e
   pair_fits true h = leaf-pair h
   pair_fits false h = kids-pair h
-
--- ---- one row of the image
-module _ (rows : List ℕ) (coefs : List ℤ) (end_rows : List ℕ) (end_coefs : List ℤ) (wide : ℕ) (may : List ℕ) (i from to : ℕ) where
-  pub as_end : (last : Bool) → last ≡ true → RowFits last rows coefs end_rows end_coefs wide may i from to → EndFits rows coefs end_rows end_coefs i from to
-  as_end true h k = k
-  as_end false h k = absurd (false≢true h)
-
-  pub as_kids : (last : Bool) → last ≡ false → RowFits last rows coefs end_rows end_coefs wide may i from to → KidsMay rows end_rows wide may i from to
-  as_kids true h k = absurd (false≢true (sym h))
-  as_kids false h k = k
-
--- no row so far, and not this one
-pub none_more : (F : ℕ → Type 0) (from j : ℕ) → ((q : ℕ) → from ≤ q → q < j → F q → ⊥) → (F j → ⊥) → (q : ℕ) → from ≤ q → q < j + 1 → F q → ⊥
-none_more F from j h k q lo hi f = go (eqb q j) refl
-  where
-    go : (b : Bool) → eqb q j ≡ b → ⊥
-    go true e = k (subst F (eqb-true q j e) f)
-    go false e = h q lo (omega (arith, eqb-false q j e)) f

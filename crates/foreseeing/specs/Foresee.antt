@@ -4,15 +4,13 @@ use Rattle.std.specs.Prelude.{◌≡◌, Bool, true, false, List, ℕ, suc, ◌+
 use Rattle.automata.specs.Choice.{choices_most}
 use Rattle.automata.specs.Tree.{Automaton}
 use Rattle.meeting.specs.declared.Level.{Level}
-use Rattle.hinting.specs.Hint.{EndRows, KidRows, EndFits, KidsMay}
+use Rattle.meeting.specs.declared.Sides.{Sides}
+use Rattle.hinting.specs.Hint.{EndFits, KidsMay}
 use Rattle.matching.specs.Levels.{start_of, IsLevel}
 use Rattle.matching.specs.Seeking.{Sound, Held}
+use Rattle.matching.specs.On.{automaton_of}
 
 -- ---- row i of the image beside the end set's rows from `from` up to below `to`
-pub record RowsThere (last : Bool) (rows : List ℕ) (coefs : List ℤ) (end_rows : List ℕ) (end_coefs : List ℤ) (wide size i from to : ℕ) : Type 0 where
-  pub leaves : last ≡ true → EndRows rows coefs end_rows end_coefs i from to
-  pub kids : last ≡ false → KidRows rows end_rows wide size i from to
-
 -- one of them has an equal leaf, or has children that are marked with those of row i
 abbrev pub RowFits : Bool → List ℕ → List ℤ → List ℕ → List ℤ → ℕ → List ℕ → ℕ → ℕ → ℕ → Type 0
 RowFits true rows coefs end_rows end_coefs wide may i from to = EndFits rows coefs end_rows end_coefs i from to
@@ -46,3 +44,16 @@ pub record IsWord (word : List ℕ) (n : ℕ) : Type 0 where
 -- whatever the image's word, the marks of levels at + 1 and on have every pair whose trees are equal by some word of the end set
 pub record Foreseen (S E : Automaton ℕ) (counts end_counts : List ℕ) (wide : ℕ) (may : List ℕ) (at n : ℕ) : Type 0 where
   pub each : (word : List ℕ) → IsWord word n → Sound S E word counts end_counts wide may at n
+
+-- ---- of both tables
+abbrev pub PairFitsOn : Bool → Sides → List ℕ → ℕ → ℕ → Type 0
+PairFitsOn last t may s e = PairFits last t.image.rows.now t.image.coefs.now t.image.first.now t.end.rows.now t.end.coefs.now t.end.first.now t.wide may s e
+
+abbrev pub BothOn : Sides → ℕ → ℕ → Type 0
+BothOn t size n = Both t.image.rows.now t.image.masks.now t.image.coefs.now t.image.counts.now t.image.first.now t.end.rows.now t.end.masks.now t.end.coefs.now t.end.counts.now t.end.first.now t.wide size n
+
+abbrev pub ForeseeingOn : Sides → ℕ → ℕ → ℕ → Level → Type 0
+ForeseeingOn t size at m l = Foreseeing t.image.rows.now t.image.masks.now t.image.coefs.now t.image.counts.now t.image.first.now t.end.rows.now t.end.masks.now t.end.coefs.now t.end.counts.now t.end.first.now t.wide size at m l
+
+abbrev pub ForeseenOn : Sides → List ℕ → ℕ → ℕ → Type 0
+ForeseenOn t may at n = Foreseen (automaton_of t.image) (automaton_of t.end) t.image.counts.now t.end.counts.now t.wide may at n

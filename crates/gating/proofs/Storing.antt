@@ -14,7 +14,7 @@ use Rattle.stored.proofs.WellFormed.{Narrow}
 use Rattle.stored.proofs.ReadBack.{file_length}
 use Rattle.jobs.specs.OneGate.{with_file}
 use Rattle.packing.specs.Written.{table_form, HasRows, at_front}
-use Rattle.replies.specs.declared.Reply.{Reply}
+use Rattle.replies.specs.declared.Fields.{Fields}
 use Rattle.replies.specs.Replied.{reply_from}
 use Rattle.setfile.specs.declared.Form.{Form}
 use Rattle.tables.specs.Table.{row_width, table_set}
@@ -64,19 +64,21 @@ module _ {cur next link heads rows masks : List ℕ} {coefs : List ℤ} {counts 
   pub target-narrow : Narrow (bounds_from room)
   target-narrow = record { states = omega (arith, t.lists.small); inner = omega (arith, t.lent.few); leaves = omega (arith, t.lent.few) }
 
-  pub target-lent : (n : ℕ) → n ≤ n_most → Lent rows masks coefs counts first n room
-  target-lent n le = record { wide = t.lent.wide; levels = omega (arith, t.lent.levels); begins = t.lent.begins; few = t.lent.few }
+-- slices with room for every level have room for fewer
+pub lent-for : {rows masks : List ℕ} {coefs : List ℤ} {counts first : List ℕ} {room : Room} → Lent rows masks coefs counts first n_most room → (n : ℕ) → n ≤ n_most
+    → Lent rows masks coefs counts first n room
+lent-for t n le = record { wide = t.wide; levels = omega (arith, t.levels); begins = t.begins; few = t.few }
 
 -- the reply and the output of a set that was made
 module _ {rows masks : List ℕ} {coefs : List ℤ} {counts first : List ℕ} {N : QSet} {b : Bounds} {form : Form} (h : Holding rows masks coefs counts first N b) (same : form ≡ form_of N) where
-  set_is : set_in form rows masks coefs counts ≡ N
+  pub set_is : set_in form rows masks coefs counts ≡ N
   set_is = ap (λ (f : Form). set_in f rows masks coefs counts) same ∙ h.is
 
   pub made-stands : Stands rows masks coefs counts first form b
   made-stands = rw same h.stands
 
   module _ (j : Judged QSet) (taken : j ≡ good N) where
-    pub made_reply : {r : Reply} → r ≡ reply_from (length_reply (good (set_in form rows masks coefs counts))) → r ≡ reply_from (length_reply j)
+    pub made_reply : {r : Fields} → r ≡ reply_from (length_reply (good (set_in form rows masks coefs counts))) → r ≡ reply_from (length_reply j)
     made_reply e = e ∙ ap (λ (P : QSet). reply_from (length_reply (good P))) set_is ∙ ap (λ (i : Judged QSet). reply_from (length_reply i)) (sym taken)
 
     pub made_output : (output : List ℕ) {exit : List ℕ} → exit ≡ at_front (file_of (set_in form rows masks coefs counts)) output → exit ≡ with_file output j

@@ -1,8 +1,7 @@
 -- Document 01, the job *One gate*, over any bounds: what it makes of a set file and a circuit, and the slices that it works in.
 use Rattle.std.specs.Prelude.{List, [], ◌∷◌, ℕ, ◌≤◌, ℤ, length}
-use Rattle.std.proofs.Math.Option.{Option, none, some}
 use Rattle.automata.specs.Sets.{QSet}
-use Rattle.stored.specs.Refusal.{Judged, refused, good, on_good, start_source}
+use Rattle.stored.specs.Refusal.{Judged, refused, good, on_good, refusal, start_source, circuit_source}
 use Rattle.stored.specs.Form.{file_size}
 use Rattle.stored.specs.Rules.{Bounds, n_most}
 use Rattle.stored.specs.Judge.{judge_set}
@@ -11,25 +10,20 @@ use Rattle.gates.specs.Gate.{Gate}
 use Rattle.gates.specs.Circuit.{judge_one}
 use Rattle.gates.specs.Refuse.{after_gates}
 use Rattle.jobs.specs.Reply.{Reply, made, reply_of}
-use Rattle.refusals.specs.Refused.{refused_by}
 use Rattle.circuits.specs.Answer.{gate_from}
+use Rattle.circuits.specs.declared.Gate as code
 use Rattle.tables.specs.Ready.{Roomy}
+use Rattle.names.specs.declared.Names.{Names}
+use Rattle.tables.specs.Slices.{Table}
 use Rattle.building.specs.Going.{Lists}
 use Rattle.building.specs.declared.Room.{Room}
 use Rattle.settling.specs.Standing.{Lent}
-use Rattle.gating.specs.declared.OneAnswer.{OneAnswer}
-use Rattle.gating.specs.declared.OneAnswer.TheVariants.{Is, Bad}
 
--- a record's gate as the code answers it, or 12 of the first record
-abbrev pub first_answer : Option Gate → OneAnswer
-first_answer none = Bad (record { number = 12; source = 2; place = 1 })
-first_answer (some g) = Is (gate_from g)
-
--- a judged circuit of one gate, as the code answers it; one that is good has a gate
-abbrev pub one_answer : Judged (List Gate) → OneAnswer
-one_answer (refused r) = Bad (refused_by r)
-one_answer (good []) = first_answer none
-one_answer (good (g ∷ gs)) = first_answer (some g)
+-- a judged circuit of one gate, as the code's gate; one that is good has a gate
+abbrev pub one_judged : Judged (List Gate) → Judged code.Gate
+one_judged (refused r) = refused r
+one_judged (good []) = refused (refusal 12 circuit_source 1)
+one_judged (good (g ∷ gs)) = good (gate_from g)
 
 -- the circuit 11 and 12, then the gate 15, 14, 16, of a set that was taken
 unfoldable pub gated_by : Bounds → QSet → List ℕ → Judged QSet
@@ -52,3 +46,7 @@ pub record Target (cur next link heads rows masks : List ℕ) (coefs : List ℤ)
   pub lists : Lists cur next link heads room.states 0
   pub lent : Lent rows masks coefs counts first n_most room
   pub long : largest room ≤ length output
+
+-- the same of a table and of names that are lent
+abbrev pub TargetOn : List ℕ → Names → Table → List ℕ → Room → Type 0
+TargetOn cur names T output room = Target cur names.keys.now names.link.now names.heads.now T.rows T.masks T.coefs T.counts T.first output room

@@ -1,7 +1,6 @@
 -- A row that is put after the others is one record more, and two keys mentioned one after the other are those of one record: so the slices then
 -- hold the level grown by that record, or that level has too many rows or keys. Assumes nothing.
-use mathlib.Core.Path.{◌≡◌, refl, sym, ap, ap₂, ◌∙◌}
-use mathlib.Core.Bool.{true, false, false≢true}
+use mathlib.Core.Path.{◌≡◌, sym, ap, ap₂, ◌∙◌}
 use mathlib.Core.Logic.{inl, inr}
 use mathlib.Core.List.{List, [], ◌∷◌, ◌++◌}
 use Prim.Native.Nat.{ℕ, ◌+◌, ◌<◌, ◌≤◌}
@@ -9,6 +8,7 @@ use native.Mathlib.Omega.{arith}
 use lib.Dec.{eqb}
 use lib.ListN.{length, take, length-append}
 use lib.Seq.{length-take-le}
+use Rattle.std.specs.Prelude.{Some, None}
 use Rattle.automata.specs.Sets.{TR, rec, tr}
 use Rattle.gates.specs.Numbering.{mention, place}
 use Rattle.stored.specs.Fields.{records_from}
@@ -19,9 +19,10 @@ use Rattle.tables.proofs.Listed.{same-records, records_append}
 use Rattle.stepwise.specs.Grow.{Level, grow}
 use Rattle.names.specs.declared.Mentioned.{Mentioned}
 use Rattle.names.specs.Found.{Numbered}
+use Rattle.growing.specs.declared.NewLevel.{NewLevel}
 use Rattle.growing.specs.declared.Progress.{Progress}
 use Rattle.growing.specs.declared.Most.{Most}
-use Rattle.growing.specs.Growing.{level_in, Over, Growing, Grew}
+use Rattle.growing.specs.Growing.{level_in, Over, Growing, Kept, Grew}
 
 rows-count : (rows masks : List ℕ) (count : ℕ) → length (tr_rows rows masks 0 count) ≡ count
 unfolding tr_rows
@@ -36,55 +37,61 @@ row_more {rows} {masks} {rows'} {masks'} {i} {t} p =
     (same-records (tr_row rows' masks') (tr_row rows masks) 0 0 1 1 i (λ j lt. p.others _ (λ e. omega arith)))
     (ap (tr_row rows' masks') z ∙ p.here)
 
--- a level that is given up
-pub gave_up : {rows masks keys link heads : List ℕ} {p : Progress} {most : Most} {G : Level ℕ} → p.ok ≡ false → Over most G → Grew rows masks keys link heads p most G
-gave_up e h = record { held = λ t. absurd (false≢true (sym e ∙ t)); growing = λ t. absurd (false≢true (sym e ∙ t)); over = λ f. h }
+-- a level that is given up, and one that is within bounds
+pub gave_up : {v : NewLevel} {most : Most} {G : Level ℕ} → Over most G → Grew v None most G
+gave_up h = record { held = λ e. cc; growing = λ e. cc; over = λ e. h }
 
-module _ {rows masks keys link heads : List ℕ} {p : Progress} {most : Most} (g : Growing rows masks keys link heads p most) (s m l r : ℕ) where
+pub grew-some : {v : NewLevel} {most : Most} {G : Level ℕ} → level_in v ≡ G → Growing v → Grew v (Some tt) most G
+grew-some e g = record { held = λ s. e; growing = λ s. g; over = λ s. cc }
+
+module _ {v : NewLevel} (g : Growing v) (s m l r : ℕ) where
   abbrev next : Level ℕ
-  next = grow eqb most.base s m l r (level_in rows masks keys p)
+  next = grow eqb v.most.base s m l r (level_in v)
 
-  pub rows-over : p.rows ≡ most.rows → Over most next
+  pub rows-over : v.done.rows ≡ v.most.rows → Over v.most next
   unfolding grow
   rows-over e = inl (simp (length-append, rows-count) (omega arith))
 
   module _ {keys₁ link₁ heads₁ keys₂ link₂ heads₂ : List ℕ} {a b : Mentioned}
-      (left : Numbered keys link heads p.keys l keys₁ link₁ heads₁ a) (right : Numbered keys₁ link₁ heads₁ a.count r keys₂ link₂ heads₂ b) where
-    both : take b.count keys₂ ≡ mention eqb (mention eqb (take p.keys keys) l) r
+      (left : Numbered v.keys.now v.link.now v.heads.now v.done.keys l keys₁ link₁ heads₁ a) (right : Numbered keys₁ link₁ heads₁ a.count r keys₂ link₂ heads₂ b) where
+    both : take b.count keys₂ ≡ mention eqb (mention eqb (take v.done.keys v.keys.now) l) r
     both = right.all ∙ ap (λ (ks : List ℕ). mention eqb ks r) left.all
 
-    pub keys-over : most.keys < b.count → Over most next
+    pub keys-over : v.most.keys < b.count → Over v.most next
     unfolding grow
     keys-over h = inr (omega (arith, ap length both, length-take-le b.count keys₂ right.chained.named))
 
-    module _ {rows' masks' : List ℕ} (put : Put rows masks rows' masks' p.rows (tr s m (most.base + a.place) (most.base + b.place))) where
-      abbrev now_at : Progress
-      now_at = record { rows = p.rows + 1; keys = b.count; ok = true }
+    -- the level after the row is put
+    module _ {w : NewLevel} (put : Put v.rows.now v.masks.now w.rows.now w.masks.now v.done.rows (tr s m (v.most.base + a.place) (v.most.base + b.place)))
+        (kept : Kept v w) (keys : w.keys.now ≡ keys₂) (link : w.link.now ≡ link₂) (heads : w.heads.now ≡ heads₂) (done : w.done ≡ record { rows = v.done.rows + 1; keys = b.count }) where
+      rows-done : w.done.rows ≡ v.done.rows + 1
+      rows-done = ap (λ (p : Progress). p.rows) done
 
-      holds_more : level_in rows' masks' keys₂ now_at ≡ next
+      keys-done : w.done.keys ≡ b.count
+      keys-done = ap (λ (p : Progress). p.keys) done
+
+      holds_more : level_in w ≡ next
       unfolding grow
       holds_more =
-          let x : a.place ≡ place eqb l (mention eqb (take p.keys keys) l) = left.number ∙ ap (place eqb l) left.all in
-          let y : b.place ≡ place eqb r (mention eqb (mention eqb (take p.keys keys) l) r) = right.number ∙ ap (place eqb r) both in
+          let x : a.place ≡ place eqb l (mention eqb (take v.done.keys v.keys.now) l) = left.number ∙ ap (place eqb l) left.all in
+          let y : b.place ≡ place eqb r (mention eqb (mention eqb (take v.done.keys v.keys.now) l) r) = right.number ∙ ap (place eqb r) both in
           ap₂ (λ (ts : List TR) (ks : List ℕ). record { records = ts; keys = ks })
-          (row_more put ∙ ap₂ (λ (i j : ℕ). tr_rows rows masks 0 p.rows ++ (rec s m (most.base + i, most.base + j) ∷ [])) x y) both
+          (ap (tr_rows w.rows.now w.masks.now 0) rows-done ∙ row_more put ∙ ap₂ (λ (i j : ℕ). tr_rows v.rows.now v.masks.now 0 v.done.rows ++ (rec s m (v.most.base + i, v.most.base + j) ∷ [])) x y)
+          (ap₂ (λ (n : ℕ) (ks : List ℕ). take n ks) keys-done keys ∙ both)
 
-      pub grew_more : (p.rows ≡ most.rows → ⊥) → b.count ≤ most.keys → length rows' ≡ length rows → length masks' ≡ length masks
-          → Grew rows' masks' keys₂ link₂ heads₂ now_at most next
-      grew_more free few el em =
-          record {
-            held = λ t. holds_more;
-            growing = λ t.
-                record {
-                  ok = refl;
-                  chained = right.chained;
-                  rows_few = omega (arith, g.rows_few, free);
-                  keys_few = few;
-                  wide = omega (arith, g.wide);
-                  long = omega (arith, g.long);
-                  room = omega (arith, g.room, left.keys-long, right.keys-long);
-                  links = omega (arith, g.links, left.link_long, right.link_long);
-                  small = g.small;
-                };
-            over = λ f. absurd (false≢true (sym f));
-          }
+      pub grew_more : (v.done.rows ≡ v.most.rows → ⊥) → b.count ≤ v.most.keys → Grew w (Some tt) v.most next
+      grew_more free few =
+          let most = kept.same_most in
+          let rows_same : w.most.rows ≡ v.most.rows = ap (λ (x : Most). x.rows) most in
+          let keys_same : w.most.keys ≡ v.most.keys = ap (λ (x : Most). x.keys) most in
+          let base_same : w.most.base ≡ v.most.base = ap (λ (x : Most). x.base) most in
+          grew-some holds_more (record {
+            chained = rw (keys, link, heads, keys-done) right.chained;
+            rows_few = omega (arith, g.rows_few, free, rows-done);
+            keys_few = omega (arith, keys-done);
+            wide = omega (arith, g.wide, kept.rows_long);
+            long = omega (arith, g.long, kept.masks_long);
+            room = omega (arith, g.room, kept.keys_long);
+            links = omega (arith, g.links, kept.link_long);
+            small = omega (arith, g.small);
+          })

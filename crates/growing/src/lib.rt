@@ -2,19 +2,19 @@
 // into the rest of the lent table; where the bounds would be passed the level is given up, since its result is refused.
 #![tactic(auto)]
 
-ghost use Rattle.std.specs.Prelude.{◌≡◌, false, eqb};
+ghost use Rattle.std.specs.Prelude.{eqb};
 ghost use Rattle.stepwise.specs.Grow as step;
 ghost use Rattle.growing.specs.Growing.{level_in, Growing, Kept, Grew};
 
 use names::mention;
+use records::Tr;
 use tables::put_row;
 
-// How many rows of this level are written, how many states of the next one are mentioned, and whether both are within bounds.
+// How many rows of this level are written, and how many states of the next one are mentioned.
 #[derive(Clone, Copy)]
 pub struct Progress {
     pub rows: u16,
     pub keys: u16,
-    pub ok: bool,
 }
 
 // How many rows and next states may be, and the number of the first next state.
@@ -25,52 +25,45 @@ pub struct Most {
     pub base: u16,
 }
 
-// The bounds are passed: nothing more is written.
-fn given_up(done: Progress) -> Progress
-    ensures { result.ok ≡ false }
-{
-    Progress {
-        rows: done.rows,
-        keys: done.keys,
-        ok: false,
-    }
+// A level under construction: the rest of the lent table, the keys of the next level's states and the chains through them, what is written there,
+// and the most that may be. Keys and chains stand here as slices, since a caller learns nothing of slices that it lent through a struct in a struct.
+#[derive(Drop)]
+pub struct NewLevel<'a> {
+    pub rows: &'a mut [u16],
+    pub masks: &'a mut [u32],
+    pub keys: &'a mut [u64],
+    pub link: &'a mut [u16],
+    pub heads: &'a mut [u16],
+    pub done: Progress,
+    pub most: Most,
 }
 
-// One record more of a state, with the stored keys of its left and its right child.
-pub fn grow(
-    rows: &mut [u16],
-    masks: &mut [u32],
-    keys: &mut [u64],
-    link: &mut [u16],
-    heads: &mut [u16],
-    done: Progress,
-    most: Most,
-    state: u16,
-    mask: u32,
-    first: u64,
-    second: u64,
-) -> Progress
-    requires { Growing rows.old masks.old keys.old link.old heads.old done most }
-    ensures grew { Grew rows.new masks.new keys.new link.new heads.new result most
-        (step.grow eqb most.base state mask first second (level_in rows.old masks.old keys.old done)) }
-    ensures kept { Kept rows.old masks.old keys.old link.old heads.old
-        rows.new masks.new keys.new link.new heads.new }
-{
-    if done.rows == most.rows {
-        return given_up(done);
-    }
-    let l = mention(keys, link, heads, done.keys, first);
-    let r = mention(keys, link, heads, l.count, second);
-    if most.keys < r.count {
-        return given_up(done);
-    }
-    let at = done.rows as usize;
-    let left = most.base + l.place;
-    let right = most.base + r.place;
-    put_row(rows, masks, at, state, mask, left, right);
-    Progress {
-        rows: done.rows + 1,
-        keys: r.count,
-        ok: true,
+impl NewLevel<'_> {
+    // One record more of a state, with the stored keys of its left and its right child; None where the bounds would be passed.
+    pub fn grow(&mut self, state: u16, mask: u32, first: u64, second: u64) -> Option<()>
+        requires { Growing self.old }
+        ensures grew { Grew self.new result self.old.most (step.grow eqb self.old.most.base state mask first second (level_in self.old)) }
+        ensures kept { Kept self.old self.new }
+    {
+        if self.done.rows == self.most.rows {
+            return None;
+        }
+        let l = mention(self.keys, self.link, self.heads, self.done.keys, first);
+        let r = mention(self.keys, self.link, self.heads, l.count, second);
+        if self.most.keys < r.count {
+            return None;
+        }
+        let row = Tr {
+            state,
+            mask,
+            left: self.most.base + l.place,
+            right: self.most.base + r.place,
+        };
+        put_row(self.rows, self.masks, self.done.rows as usize, row);
+        self.done = Progress {
+            rows: self.done.rows + 1,
+            keys: r.count,
+        };
+        Some(())
     }
 }

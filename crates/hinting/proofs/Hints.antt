@@ -13,19 +13,20 @@ use Rattle.amplitude.specs.Leaf.{Leaf, same}
 use Rattle.amplitude.proofs.Equal.{both}
 use Rattle.automata.specs.Choice.{map_o, choose}
 use Rattle.verdict.specs.Search.{same_leaves}
-use Rattle.lookup.specs.declared.Found.{Found}
-use Rattle.lookup.specs.declared.Found.TheVariants.{Nothing}
-use Rattle.lookup.specs.Answer.{found}
 use Rattle.lookup.specs.Lookup.{transition_row, pair_row, leaf_of}
 use Rattle.lookup.specs.Alts.{alts_from, leaf_alts, ends_in}
 use Rattle.lookup.proofs.Finding.{scan_hits}
+use Rattle.std.proofs.Common.{Bor}
 use Rattle.meeting.specs.Met.{is_met, There}
+use Rattle.meeting.specs.Where.{MetWhere}
 use Rattle.stepping.specs.Step.{move_in, kids}
 use Rattle.stepping.proofs.Answers.{choose-rows}
-use Rattle.stepping.proofs.Steps.{stays}
-use Rattle.fitting.proofs.Leaves.{leafless}
 use Rattle.meeting.specs.declared.Level.{Level}
-use Rattle.hinting.specs.Hint.{both_marked, EndFits, KidsMay, LeafHint, KidsHint, Hint, PairReady, RowReady, Marked, MarkedRow, Hinted}
+use Rattle.hinting.specs.Hint.{both_marked, EndFits, KidsMay, LeafHint, KidsHint, Hint, PairReady, RowReady, Hinted}
+
+pub true_unless : (b : Bool) → (b ≡ false → ⊥) → b ≡ true
+true_unless true h = refl
+true_unless false h = absurd (h refl)
 
 -- ---- the row of the end state that a choice takes
 pub record Row {X : Type 0} (f : ℕ → X) (first : List ℕ) (e : ℕ) (x : X) : Type 0 where
@@ -98,63 +99,16 @@ module _ (rows masks : List ℕ) (coefs : List ℤ) (first end_rows end_masks : 
   hint_grows true wide may may' g h = h
   hint_grows false wide may may' g h = record { choice = h.choice; test = h.test; marked = λ q f k. g q f (h.marked q f k); fits = h.fits }
 
-  pub as_leaf : (last : Bool) (wide : ℕ) (may : List ℕ) → last ≡ true → Hint last rows masks coefs first end_rows end_masks end_coefs end_first c wide may s e → LeafHint rows masks coefs first end_rows end_masks end_coefs end_first c s e
-  as_leaf true wide may h k = k
-  as_leaf false wide may h k = absurd (false≢true h)
-
-  pub as_kids : (last : Bool) (wide : ℕ) (may : List ℕ) → last ≡ false → Hint last rows masks coefs first end_rows end_masks end_coefs end_first c wide may s e → KidsHint rows masks first end_rows end_masks end_first c wide may s e
-  as_kids true wide may h k = absurd (false≢true (sym h))
-  as_kids false wide may h k = k
-
-  pub no_hint : (last : Bool) (wide : ℕ) (may : List ℕ) {a : Found} → a ≡ found (transition_row masks first s c) → a ≡ Nothing → Hint last rows masks coefs first end_rows end_masks end_coefs end_first c wide may s e → ⊥
-  no_hint true wide may f g h = no_leaf_hint (leafless rows masks coefs first s c f g) h
-  no_hint false wide may f g h = no_kids_hint wide may (stays rows masks first s c f g) h
-
--- ---- pair by pair, and state by state
-module _ (last : Bool) (rows masks : List ℕ) (coefs : List ℤ) (first end_rows end_masks : List ℕ) (end_coefs : List ℤ) (end_first : List ℕ) (c wide : ℕ) where
-  pub row-none : (may : List ℕ) (s start : ℕ) → MarkedRow last rows masks coefs first end_rows end_masks end_coefs end_first c wide may s start start may
-  row-none may s start = record { grows = λ q f h. h; each = λ e lo hi h. absurd (omega arith) }
-
-  pub row_more : {may mid may' : List ℕ} {s start i : ℕ} → MarkedRow last rows masks coefs first end_rows end_masks end_coefs end_first c wide may s start i mid → Marked last rows masks coefs first end_rows end_masks end_coefs end_first c wide mid s i may'
-      → MarkedRow last rows masks coefs first end_rows end_masks end_coefs end_first c wide may s start (i + 1) may'
-  row_more {may} {mid} {may'} {s} {start} {i} w m = record {
-    grows = λ q f h. m.grows q f (w.grows q f h);
-    each = λ e lo hi h. go e lo hi h (eqb e i) refl;
-  }
-    where
-      go : (e : ℕ) → start ≤ e → e < i + 1 → Hint last rows masks coefs first end_rows end_masks end_coefs end_first c wide may s e → (b : Bool) → eqb e i ≡ b → is_met wide may' s e ≡ true
-      go e lo hi h true k =
-          let same : e ≡ i = eqb-true e i k in
-          ap (λ (f : ℕ). is_met wide may' s f) same
-          ∙ m.is (subst (λ (f : ℕ). Hint last rows masks coefs first end_rows end_masks end_coefs end_first c wide mid s f) same (hint_grows rows masks coefs first end_rows end_masks end_coefs end_first c s e 0 last wide may mid w.grows h))
-      go e lo hi h false k = m.grows s e (w.each e lo (omega (arith, eqb-false e i k)) h)
-
-  pub row-all : {may may' : List ℕ} {s start i : ℕ} (stop : ℕ) → stop ≤ i → MarkedRow last rows masks coefs first end_rows end_masks end_coefs end_first c wide may s start i may' → MarkedRow last rows masks coefs first end_rows end_masks end_coefs end_first c wide may s start stop may'
-  row-all stop h w = record { grows = w.grows; each = λ e lo hi k. w.each e lo (omega arith) k }
-
-  -- the image states so far
-  abbrev pub so_far : ℕ → ℕ → ℕ → ℕ → Level
-  so_far from to start stop = record { from = from; to = to; start = start; stop = stop }
-
-  pub level-none : (may : List ℕ) (from start stop : ℕ) → Hinted last rows masks coefs first end_rows end_masks end_coefs end_first c wide may (so_far from from start stop) may
-  level-none may from start stop = record { grows = λ q f h. h; each = λ s e lo hi lo' hi' h. absurd (omega arith) }
-
-  pub level-more : {may mid may' : List ℕ} (from i start stop : ℕ) → Hinted last rows masks coefs first end_rows end_masks end_coefs end_first c wide may (so_far from i start stop) mid → MarkedRow last rows masks coefs first end_rows end_masks end_coefs end_first c wide mid i start stop may'
-      → Hinted last rows masks coefs first end_rows end_masks end_coefs end_first c wide may (so_far from (i + 1) start stop) may'
-  level-more {may} {mid} {may'} from i start stop w m = record {
-    grows = λ q f h. m.grows q f (w.grows q f h);
-    each = λ s e lo hi lo' hi' h. go s e lo hi lo' hi' h (eqb s i) refl;
-  }
-    where
-      go : (s e : ℕ) → from ≤ s → s < i + 1 → start ≤ e → e < stop → Hint last rows masks coefs first end_rows end_masks end_coefs end_first c wide may s e → (b : Bool) → eqb s i ≡ b → is_met wide may' s e ≡ true
-      go s e lo hi lo' hi' h true k =
-          let same : s ≡ i = eqb-true s i k in
-          ap (λ (q : ℕ). is_met wide may' q e) same
-          ∙ m.each e lo' hi' (subst (λ (q : ℕ). Hint last rows masks coefs first end_rows end_masks end_coefs end_first c wide mid q e) same (hint_grows rows masks coefs first end_rows end_masks end_coefs end_first c s e 0 last wide may mid w.grows h))
-      go s e lo hi lo' hi' h false k = m.grows s e (w.each s e lo (omega (arith, eqb-false s i k)) lo' hi' h)
-
-  pub level_all : {may may' : List ℕ} (l : Level) (i : ℕ) → l.to ≤ i → Hinted last rows masks coefs first end_rows end_masks end_coefs end_first c wide may (so_far l.from i l.start l.stop) may' → Hinted last rows masks coefs first end_rows end_masks end_coefs end_first c wide may l may'
-  level_all l i h w = record { grows = w.grows; each = λ s e lo hi lo' hi' k. w.each s e lo (omega arith) lo' hi' k }
+-- ---- marked by a test of each pair
+pub hinted : (last : Bool) (rows masks : List ℕ) (coefs : List ℤ) (first end_rows end_masks : List ℕ) (end_coefs : List ℤ) (end_first : List ℕ) (c wide : ℕ) (post : Bor (List ℕ) → ℕ → ℕ → Bool → Type 0) {may may' : List ℕ} {l : Level}
+    → MetWhere post wide may l may' → ((p : Bor (List ℕ)) (s e : ℕ) → post p s e false → Hint last rows masks coefs first end_rows end_masks end_coefs end_first c wide p.now s e → ⊥)
+    → Hinted last rows masks coefs first end_rows end_masks end_coefs end_first c wide may l may'
+hinted last rows masks coefs first end_rows end_masks end_coefs end_first c wide post {may} {may'} {l} w sound = record {
+  grows = w.grows.each;
+  each = λ s e lo hi lo' hi' h. true_unless (is_met wide may' s e) (λ un.
+      let r = w.each s e lo hi lo' hi' un in
+      sound r.marks s e r.said (hint_grows rows masks coefs first end_rows end_masks end_coefs end_first c s e 0 last wide may r.marks.now r.grown.each h));
+}
 
 -- ---- what is asked stays asked in a row of marks as long
 module _ {last : Bool} {rows masks : List ℕ} {coefs : List ℤ} {first end_rows end_masks : List ℕ} {end_coefs : List ℤ} {end_first : List ℕ} {wide size size' : ℕ} (same_size : size' ≡ size) where

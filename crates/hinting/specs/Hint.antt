@@ -4,6 +4,7 @@ use Rattle.std.specs.Prelude.{◌≡◌, Bool, true, false, ◌&&◌, List, ℕ,
 use Rattle.amplitude.specs.Leaf.{same}
 use Rattle.lookup.specs.Lookup.{pair_row, leaf_of}
 use Rattle.meeting.specs.declared.Level.{Level}
+use Rattle.meeting.specs.declared.Sides.{Sides}
 use Rattle.meeting.specs.Met.{is_met, There}
 use Rattle.stepping.specs.Step.{kids_in, KidsThere}
 use Rattle.fitting.specs.Fit.{leaves_in, LeafRow}
@@ -67,15 +68,7 @@ pub record RowReady (last : Bool) (rows masks : List ℕ) (coefs : List ℤ) (fi
 pub record Ground (last : Bool) (rows masks : List ℕ) (coefs : List ℤ) (first end_rows end_masks : List ℕ) (end_coefs : List ℤ) (end_first : List ℕ) (wide size : ℕ) (l : Level) : Type 0 where
   pub each : (s : ℕ) → l.from ≤ s → s < l.to → RowReady last rows masks coefs first end_rows end_masks end_coefs end_first wide size s l.start l.stop
 
--- ---- what is left: marks only grow, and the pair is marked if it could match
-pub record Marked (last : Bool) (rows masks : List ℕ) (coefs : List ℤ) (first end_rows end_masks : List ℕ) (end_coefs : List ℤ) (end_first : List ℕ) (c wide : ℕ) (may : List ℕ) (s e : ℕ) (may' : List ℕ) : Type 0 where
-  pub grows : (q f : ℕ) → is_met wide may q f ≡ true → is_met wide may' q f ≡ true
-  pub is : Hint last rows masks coefs first end_rows end_masks end_coefs end_first c wide may s e → is_met wide may' s e ≡ true
-
-pub record MarkedRow (last : Bool) (rows masks : List ℕ) (coefs : List ℤ) (first end_rows end_masks : List ℕ) (end_coefs : List ℤ) (end_first : List ℕ) (c wide : ℕ) (may : List ℕ) (s start stop : ℕ) (may' : List ℕ) : Type 0 where
-  pub grows : (q f : ℕ) → is_met wide may q f ≡ true → is_met wide may' q f ≡ true
-  pub each : (e : ℕ) → start ≤ e → e < stop → Hint last rows masks coefs first end_rows end_masks end_coefs end_first c wide may s e → is_met wide may' s e ≡ true
-
+-- ---- what is left: marks only grow, and each pair of the level that could match is marked
 pub record Hinted (last : Bool) (rows masks : List ℕ) (coefs : List ℤ) (first end_rows end_masks : List ℕ) (end_coefs : List ℤ) (end_first : List ℕ) (c wide : ℕ) (may : List ℕ) (l : Level) (may' : List ℕ) : Type 0 where
   pub grows : (q f : ℕ) → is_met wide may q f ≡ true → is_met wide may' q f ≡ true
   pub each : (s e : ℕ) → l.from ≤ s → s < l.to → l.start ≤ e → e < l.stop → Hint last rows masks coefs first end_rows end_masks end_coefs end_first c wide may s e → is_met wide may' s e ≡ true
@@ -86,3 +79,34 @@ pub record RowThere (wide size size' s start stop : ℕ) : Type 0 where
 
 pub record LevelThere (wide size size' : ℕ) (l : Level) : Type 0 where
   pub each : (s : ℕ) → l.from ≤ s → s < l.to → RowThere wide size size' s l.start l.stop
+
+-- ---- of both tables
+-- the rows of end state e beside row i
+pub record EndRowsOn (t : Sides) (i e : ℕ) : Type 0 where
+  pub begun : e + 1 < length t.end.first.now
+  pub rows : EndRows t.image.rows.now t.image.coefs.now t.end.rows.now t.end.coefs.now i (get_or t.end.first.now e 0) (get_or t.end.first.now (e + 1) 0)
+
+abbrev pub EndFitsOn : Sides → ℕ → ℕ → Type 0
+EndFitsOn t i e = EndFits t.image.rows.now t.image.coefs.now t.end.rows.now t.end.coefs.now i (get_or t.end.first.now e 0) (get_or t.end.first.now (e + 1) 0)
+
+pub record KidRowsOn (t : Sides) (size i e : ℕ) : Type 0 where
+  pub begun : e + 1 < length t.end.first.now
+  pub rows : KidRows t.image.rows.now t.end.rows.now t.wide size i (get_or t.end.first.now e 0) (get_or t.end.first.now (e + 1) 0)
+
+abbrev pub KidsMayOn : Sides → List ℕ → ℕ → ℕ → Type 0
+KidsMayOn t may i e = KidsMay t.image.rows.now t.end.rows.now t.wide may i (get_or t.end.first.now e 0) (get_or t.end.first.now (e + 1) 0)
+
+abbrev pub LeafHintOn : Sides → ℕ → ℕ → ℕ → Type 0
+LeafHintOn t c s e = LeafHint t.image.rows.now t.image.masks.now t.image.coefs.now t.image.first.now t.end.rows.now t.end.masks.now t.end.coefs.now t.end.first.now c s e
+
+abbrev pub KidsHintOn : Sides → ℕ → List ℕ → ℕ → ℕ → Type 0
+KidsHintOn t c may s e = KidsHint t.image.rows.now t.image.masks.now t.image.first.now t.end.rows.now t.end.masks.now t.end.first.now c t.wide may s e
+
+abbrev pub PairReadyOn : Bool → Sides → ℕ → ℕ → ℕ → Type 0
+PairReadyOn last t size s e = PairReady last t.image.rows.now t.image.masks.now t.image.coefs.now t.image.first.now t.end.rows.now t.end.masks.now t.end.coefs.now t.end.first.now t.wide size s e
+
+abbrev pub GroundOn : Bool → Sides → ℕ → Level → Type 0
+GroundOn last t size l = Ground last t.image.rows.now t.image.masks.now t.image.coefs.now t.image.first.now t.end.rows.now t.end.masks.now t.end.coefs.now t.end.first.now t.wide size l
+
+abbrev pub HintedOn : Bool → Sides → ℕ → List ℕ → Level → List ℕ → Type 0
+HintedOn last t c may l may' = Hinted last t.image.rows.now t.image.masks.now t.image.coefs.now t.image.first.now t.end.rows.now t.end.masks.now t.end.coefs.now t.end.first.now c t.wide may l may'

@@ -12,12 +12,10 @@ use Rattle.jobs.specs.Reply as def
 use Rattle.jobs.specs.Reply.{word_places}
 use Rattle.jobs.specs.Check.{check_answer}
 use Rattle.jobs.specs.Program.{fixed_size, start_part, circuit_part, end_part, allowance_of, input_ok, program_reply, printed}
-use Rattle.replies.specs.declared.Reply.{Reply}
+use Rattle.replies.specs.declared.Fields.{Fields}
 use Rattle.replies.specs.Replied.{reply_from}
-use Rattle.lines.specs.declared.input.Parts.{Parts}
-use Rattle.lines.specs.Divided.{parts_of}
+use Rattle.lines.specs.Divided.{Divided}
 use Rattle.lines.specs.Printed.{line_room, printed_in, printed_length}
-use Rattle.lines.proofs.Divided.{Divided, divided, ok-is}
 use Rattle.lines.proofs.Printed.{Choices, line-left, line-length}
 use Rattle.jobline.specs.Line.{no_job, line_put, line_length}
 use Rattle.jobline.proofs.Word.{choices-fit}
@@ -35,20 +33,13 @@ unfolding program_reply
 is_none s e = rw e
 
 -- what the code lends of an input that divides
-module _ (s : List ℕ) {p : Parts} (is : p ≡ parts_of s) (good : input_ok s ≡ true) where
-  pub in_parts : Divided s p
-  in_parts = divided s is (ok-is s is ∙ good)
+module _ {s : List ℕ} {most : ℕ} {start circuit end : List ℕ} (d : Divided s most start circuit end) where
+  pub checked : {fields : Fields} → fields ≡ reply_from (check_answer start circuit end most) → fields ≡ reply_from (job_reply s)
+  checked e = e ∙ rw (d.first, d.second, d.last, d.most)
 
-  pub checked : {reply : Reply}
-      → reply ≡ reply_from (check_answer (take (p.first - fixed_size) (drop fixed_size s)) (take (p.second - p.first) (drop p.first s)) (take (length s - p.second) (drop p.second s)) p.allowance)
-      → reply ≡ reply_from (job_reply s)
-  checked e = let d = in_parts in e ∙ rw (d.start, d.circuit, d.end, d.allowance)
-
-  pub choices_its : {k : ℕ} → (get_or (take (p.first - fixed_size) (drop fixed_size s)) 3 0 ≤ n_most → k ≡ get_or (take (p.first - fixed_size) (drop fixed_size s)) 3 0 + 1)
-      → Choices k (job_reply s)
+  pub choices_its : {k : ℕ} → (get_or start 3 0 ≤ n_most → k ≡ get_or start 3 0 + 1) → Choices k (job_reply s)
   choices_its {k} h =
-      choices-fit (start_part s) (circuit_part s) (end_part s) (allowance_of s) k
-      (subst (λ (l : List ℕ). get_or l 3 0 ≤ n_most → k ≡ get_or l 3 0 + 1) in_parts.start h)
+      choices-fit (start_part s) (circuit_part s) (end_part s) (allowance_of s) k (subst (λ (l : List ℕ). get_or l 3 0 ≤ n_most → k ≡ get_or l 3 0 + 1) d.first h)
 
 -- ---- the buffer
 pub no_room : (s out : List ℕ) → length out < line_room → out ≡ line_put s out
@@ -69,12 +60,12 @@ within s out e h = go (leb line_room (length out)) (sym (ap length e) ∙ h)
     go false k = omega arith
 
 -- what `put_line` leaves and returns of the program's reply
-module _ (s : List ℕ) {reply : Reply} (r : def.Reply) (n : ℕ) (out : List ℕ) (is : reply ≡ reply_from r) (few : n ≤ word_places) (has : Choices n r)
+module _ (s : List ℕ) {fields : Fields} (r : def.Reply) (n : ℕ) (out : List ℕ) (is : fields ≡ reply_from r) (few : n ≤ word_places) (has : Choices n r)
     (room : line_room ≤ length out) (its : r ≡ program_reply s) where
-  pub line-put : {exit : List ℕ} → exit ≡ printed_in reply n out → exit ≡ line_put s out
+  pub line-put : {exit : List ℕ} → exit ≡ printed_in fields n out → exit ≡ line_put s out
   unfolding line_put printed
   line-put e = line-left r n out is few has room e ∙ rw (le-leb line_room (length out) room, its)
 
-  pub length-told : {k : ℕ} → k ≡ printed_length reply n out → k ≡ line_length s out
+  pub length-told : {k : ℕ} → k ≡ printed_length fields n out → k ≡ line_length s out
   unfolding line_length printed
   length-told e = line-length r n out is few has room e ∙ rw (le-leb line_room (length out) room, its)

@@ -3,6 +3,7 @@ use Rattle.std.specs.Prelude.{◌≡◌, true, false, List, [], ◌∷◌, ℕ, 
 use Rattle.automata.specs.Tree.{Automaton}
 use Rattle.verdict.specs.Search.{searched, found as pair_found}
 use Rattle.meeting.specs.declared.Level.{Level}
+use Rattle.judging.specs.declared.Search.{Search}
 use Rattle.meeting.specs.Met.{is_met}
 use Rattle.matching.specs.Seeking.{Seeking}
 use Rattle.relating.specs.Found.{found}
@@ -36,3 +37,7 @@ pub record Started (wide plane room : ℕ) (may stack : List ℕ) (root : ℕ) (
   pub sound : (S E : Automaton ℕ) (word : List ℕ) (n : ℕ) → Whole word n → found S E word 0 n wide plane stack' r l ≡ true → searched S E l.stop n (take (n + 1) word) root ≡ true
   pub rise : Rise wide plane may stack 0 root l from to stack' r
   pub moves : from < l.stop → 0 < room → from < to
+
+-- of a search on both tables
+abbrev pub JudgingOn : Search → ℕ → ℕ → ℕ → ℕ → ℕ → Level → Type 0
+JudgingOn t p stack spare at m l = Judging t.sides.image.rows.now t.sides.image.masks.now t.sides.image.coefs.now t.sides.image.counts.now t.sides.image.first.now t.sides.end.rows.now t.sides.end.masks.now t.sides.end.coefs.now t.sides.end.counts.now t.sides.end.first.now t.word.now t.sides.wide t.plane t.room p stack spare at m l

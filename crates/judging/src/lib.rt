@@ -5,16 +5,15 @@
 
 ghost use Rattle.std.specs.Prelude.{◌≡◌, true, ◌+◌, ◌*◌, ◌≤◌, ◌<◌, length, get_or, take};
 ghost use Rattle.verdict.specs.Search.{searched};
-ghost use Rattle.lookup.specs.Alts.{table_automaton};
-ghost use Rattle.matching.specs.Seeking.{Hints, Lent};
-ghost use Rattle.relating.specs.Found.{found};
+ghost use Rattle.matching.specs.On.{automaton_of, LentOn, HintsOn};
+ghost use Rattle.relating.specs.Found.{found_on};
 ghost use Rattle.relating.specs.Roots.{Rooted, Begun};
 ghost use Rattle.batching.specs.Fill.{Low};
-ghost use Rattle.judging.specs.Judge.{Spaced, Judging, Rise, Started};
+ghost use Rattle.judging.specs.Judge.{Spaced, JudgingOn, Rise, Started};
 
-use batching::{batch, join};
+use batching::{Step, batch, join};
 use matching::{hint_from, next_level};
-use meeting::{Level, is_met, meet, meet_none};
+use meeting::{Level, Sides, is_met, meet, meet_none};
 use relating::leads;
 
 // The end root to go on from, and the relations there are.
@@ -24,68 +23,54 @@ pub struct Start {
     pub count: u16,
 }
 
-// Some word of the end set gives equal trees to all pairs of one of the first p relations on this level.
-fn judge_from(
-    left: u8,
-    at: u8,
-    rows: &[u16],
-    masks: &[u32],
-    coefs: &[i32],
-    counts: &[u16],
-    first: &[u16],
-    endrows: &[u16],
-    endmasks: &[u32],
-    endcoefs: &[i32],
-    endcounts: &[u16],
-    endfirst: &[u16],
-    word: &[u8],
-    may: &[u32],
-    stack: &mut [u32],
-    scratch: &mut [u32],
-    wide: u16,
+// The search by a member's word: the marks of the pairs that could match by it, the words of a plane, and the planes that there is room for.
+#[derive(Clone, Copy)]
+struct Search<'a> {
+    sides: Sides<'a>,
+    word: &'a [u8],
+    may: &'a [u32],
     plane: u16,
     room: u16,
+}
+
+// Some word of the end set gives equal trees to all pairs of one of the first p relations on this level.
+fn judge_from(
+    search: &Search,
+    left: u8,
+    at: u8,
+    stack: &mut [u32],
+    scratch: &mut [u32],
     p: u16,
     level: Level,
 ) -> bool
-    requires { Judging rows.now masks.now coefs.now counts.now first.now endrows.now endmasks.now endcoefs.now endcounts.now endfirst.now word.now wide plane room p (length stack.old) (length scratch.old) at left level × Hints (table_automaton rows.now masks.now coefs.now first.now) (table_automaton endrows.now endmasks.now endcoefs.now endfirst.now) word.now counts.now endcounts.now wide may.now (at + left) }
-    ensures { (result ≡ found (table_automaton rows.now masks.now coefs.now first.now) (table_automaton endrows.now endmasks.now endcoefs.now endfirst.now) word.now at left wide plane stack.old p level) × Low wide plane level stack.old stack.new }
+    requires { JudgingOn search.now p (length stack.old) (length scratch.old) at left level × HintsOn search.now.sides search.now.word.now search.now.may.now (at + left) }
+    ensures { (result ≡ found_on search.now.sides search.now.word.now at left search.now.plane stack.old p level) × Low search.now.sides.wide search.now.plane level stack.old stack.new }
 {
-    let c = word[at as usize];
+    let c = search.word[at as usize];
     if left == 0 {
-        return leads(
-            rows, masks, coefs, first, endrows, endmasks, endcoefs, endfirst, stack, plane, p,
-            wide, c, level,
-        );
+        return leads(&search.sides, stack, search.plane, p, c, level);
     }
-    let next = next_level(counts, endcounts, at, level);
+    let next = next_level(&search.sides, at, level);
+    let step = Step {
+        sides: search.sides,
+        may: search.may,
+        c,
+        level,
+        next,
+        plane: search.plane,
+        room: search.room,
+    };
     let all = p as u32 * 32;
     let mut place: u32 = 0;
+    // A while: the place to go on from is what batch says, and not the next one.
     while place < all {
-        let reached = batch(
-            rows, masks, first, endrows, endmasks, endfirst, stack, plane, room, p, wide, may,
-            scratch, c, place, level, next,
-        );
+        let reached = batch(&step, stack, p, scratch, place);
         if judge_from(
+            search,
             left - 1,
             at + 1,
-            rows,
-            masks,
-            coefs,
-            counts,
-            first,
-            endrows,
-            endmasks,
-            endcoefs,
-            endcounts,
-            endfirst,
-            word,
-            may,
             stack,
             scratch,
-            wide,
-            plane,
-            room,
             reached.count,
             next,
         ) {
@@ -134,78 +119,54 @@ pub fn begin_from(
     requires { Rooted plane wide (length may.now) root level × (room * plane ≤ length stack.old) × (plane ≤ length scratch.old) × (level.start ≤ from) }
     ensures { Started wide plane room may.now stack.old root level from result.root stack.new result.count }
 {
-    let stop = level.stop;
     let mut p: u16 = 0;
-    let mut e = from;
-    while (e < stop) & (p < room) {
+    for e in from..level.stop {
+        if p == room {
+            return Start { root: e, count: p };
+        }
         p = begin_pair(stack, plane, p, wide, may, scratch, root, e, level);
-        e += 1;
     }
-    Start { root: e, count: p }
+    Start {
+        root: level.stop.max(from),
+        count: p,
+    }
 }
 
 // The tree that the image's root gives by the word is a state of the end set. The stack has room for `room` relations of `plane` words each.
 pub fn judge(
     n: u8,
-    rows: &[u16],
-    masks: &[u32],
-    coefs: &[i32],
-    counts: &[u16],
-    first: &[u16],
-    endrows: &[u16],
-    endmasks: &[u32],
-    endcoefs: &[i32],
-    endcounts: &[u16],
-    endfirst: &[u16],
+    sides: &Sides,
     word: &[u8],
     stack: &mut [u32],
     scratch: &mut [u32],
     may: &mut [u32],
-    wide: u16,
     plane: u16,
     room: u16,
     root: u16,
 ) -> bool
-    requires { Lent rows.now masks.now coefs.now counts.now first.now endrows.now endmasks.now endcoefs.now endcounts.now endfirst.now word.now wide plane n × Lent rows.now masks.now coefs.now counts.now first.now endrows.now endmasks.now endcoefs.now endcounts.now endfirst.now word.now wide (length may.old) n × Spaced plane room 0 (length stack.old) (length scratch.old) × (root < get_or counts.now 0 0) }
-    ensures { result ≡ searched (table_automaton rows.now masks.now coefs.now first.now) (table_automaton endrows.now endmasks.now endcoefs.now endfirst.now) (get_or endcounts.now 0 0) n (take (n + 1) word.now) root }
+    requires { LentOn sides.now word.now plane n × LentOn sides.now word.now (length may.old) n × Spaced plane room 0 (length stack.old) (length scratch.old) × (root < get_or sides.now.image.counts.now 0 0) }
+    ensures { result ≡ searched (automaton_of sides.now.image) (automaton_of sides.now.end) (get_or sides.now.end.counts.now 0 0) n (take (n + 1) word.now) root }
 {
-    let roots = endcounts[0];
+    let roots = sides.end.counts[0];
     let level = Level {
         from: 0,
-        to: counts[0],
+        to: sides.image.counts[0],
         start: 0,
         stop: roots,
     };
-    hint_from(
-        n, 0, rows, masks, coefs, counts, first, endrows, endmasks, endcoefs, endcounts, endfirst,
-        word, may, wide, level,
-    );
+    hint_from(n, 0, sides, word, may, level);
+    let search = Search {
+        sides: *sides,
+        word,
+        may,
+        plane,
+        room,
+    };
     let mut e: u16 = 0;
+    // A while: the end root to go on from is what begin_from says, and not the next one.
     while e < roots {
-        let start = begin_from(stack, plane, room, wide, may, scratch, root, e, level);
-        if judge_from(
-            n,
-            0,
-            rows,
-            masks,
-            coefs,
-            counts,
-            first,
-            endrows,
-            endmasks,
-            endcoefs,
-            endcounts,
-            endfirst,
-            word,
-            may,
-            stack,
-            scratch,
-            wide,
-            plane,
-            room,
-            start.count,
-            level,
-        ) {
+        let start = begin_from(stack, plane, room, sides.wide, may, scratch, root, e, level);
+        if judge_from(&search, n, 0, stack, scratch, start.count, level) {
             return true;
         }
         e = start.root;

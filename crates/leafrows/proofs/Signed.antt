@@ -1,24 +1,20 @@
 -- A signed number is read back as it was written, since it fits; and a sum or a negative is small enough to fit. Assumes nothing.
-use mathlib.Core.Path.{◌≡◌, ap, ◌∙◌}
+use mathlib.Core.Path.{◌≡◌}
 use mathlib.Core.Bool.{Bool, true, false, cond}
 use Prim.Native.Nat.{ℕ, zero, suc, ◌+◌, ◌≤◌, ◌<◌, ◌^◌}
 use native.Mathlib.Omega.{arith}
 use lib.Dec.{ltb}
 use lib.IntN.{ℤ, pos, negsuc, nat_abs, neg_ℤ, ◌+ℤ◌}
 use lib.Signed.{mag}
-use mir.Syntax.{Width, w32, w64}
+use mir.Syntax.{Width, w32}
 use mir.Val.{SFits, hbits, to_z, of_z}
-use mir.Facts.{to_z-of_z, sfits_widen}
+use mir.Facts.{to_z-of_z}
 use Rattle.amplitude.specs.Amp.{amp}
 
 -- ---- sizes
 mag-nat_abs : (z : ℤ) → mag z ≤ nat_abs z
 mag-nat_abs (pos n) = omega arith
 mag-nat_abs (negsuc n) = omega arith
-
-nat_abs-mag : (z : ℤ) → nat_abs z ≤ suc (mag z)
-nat_abs-mag (pos n) = omega arith
-nat_abs-mag (negsuc n) = omega arith
 
 pub nat_abs_neg : (z : ℤ) → nat_abs (neg_ℤ z) ≡ nat_abs z
 nat_abs_neg (pos zero) = omega arith
@@ -39,15 +35,6 @@ nat_abs-sum (negsuc a) (negsuc b) = omega arith
 pub fits32 : (z : ℤ) → nat_abs z < 2 ^ 31 → SFits w32 z
 fits32 z h = record { sfits = omega (arith, mag-nat_abs z) }
 
-pub fits64 : (z : ℤ) → nat_abs z < 2 ^ 63 → SFits w64 z
-fits64 z h = record { sfits = omega (arith, mag-nat_abs z) }
-
-pub wide : {z : ℤ} → SFits w32 z → SFits w64 z
-wide f = sfits_widen tt f
-
-pub sum_fits : {x y : ℤ} → SFits w32 x → SFits w32 y → SFits w64 (x +ℤ y)
-sum_fits {x} {y} f g = fits64 (x +ℤ y) (omega (arith, nat_abs-sum x y, nat_abs-mag x, nat_abs-mag y, f.sfits, g.sfits))
-
 -- ---- what is read back
 -- a field of any width
 pub told : (w : Width) (z : ℤ) → mag z < 2 ^ hbits w → to_z w (of_z w z) ≡ z
@@ -56,7 +43,3 @@ told w z h = to_z-of_z {w = w} {z = z} (record { sfits = h })
 -- four fields
 pub amp-told : (w : Width) (a b c d : ℤ) → mag a < 2 ^ hbits w → mag b < 2 ^ hbits w → mag c < 2 ^ hbits w → mag d < 2 ^ hbits w → amp (to_z w (of_z w a)) (to_z w (of_z w b)) (to_z w (of_z w c)) (to_z w (of_z w d)) ≡ amp a b c d
 amp-told w a b c d ha hb hc hd = rw (told w a ha, told w b hb, told w c hc, told w d hd)
-
--- a number of 32 bits, after its cast to 64
-pub widened : {z : ℤ} → SFits w32 z → to_z w64 (of_z w64 (to_z w32 (of_z w32 z))) ≡ z
-widened {z} f = ap (λ (u : ℤ). to_z w64 (of_z w64 u)) (to_z-of_z f) ∙ to_z-of_z (wide f)

@@ -1,8 +1,7 @@
 -- Document 01, "Amplitudes": the code's amplitudes, and which amplitudes of the definitions they are.
-use Rattle.std.specs.Prelude.{◌≡◌, true, false, ℕ, ◌≤◌, nat_abs}
-use Rattle.amplitude.specs.Amp.{Amp, amp, 0A, in_range_a}
+use Rattle.std.specs.Prelude.{◌≡◌, true, ℕ, ◌≤◌, nat_abs, Option, is_some, IfSome}
+use Rattle.amplitude.specs.Amp.{Amp, amp, in_range_a}
 use Rattle.leafrows.specs.declared.Amplitude.{Amplitude}
-use Rattle.leafrows.specs.declared.Ranged.{Ranged}
 
 -- the amplitude that a value is
 abbrev pub amp_is : Amplitude → Amp
@@ -20,9 +19,8 @@ InRange x = in_range_a (amp_is x) ≡ true
 abbrev pub Within : ℕ → Amp → Type 0
 Within m (amp a b c d) = (nat_abs a ≤ m) × (nat_abs b ≤ m) × (nat_abs c ≤ m) × (nat_abs d ≤ m)
 
--- what a test of x answers: whether it is in range, and x itself if it is, else zero. So the numbers are always in range
-pub record Tested (x : Amp) (r : Ranged) : Type 0 where
-  pub told : r.ok ≡ in_range_a x
-  pub is : r.ok ≡ true → amp_is r.sum ≡ x
-  pub none : r.ok ≡ false → amp_is r.sum ≡ 0A
-  pub range : InRange r.sum
+-- what a test of x answers: x itself if it is in range, else nothing
+pub record Tested (x : Amp) (r : Option Amplitude) : Type 0 where
+  pub told : is_some r ≡ in_range_a x
+  pub is : IfSome r (λ y. amp_is y ≡ x)
+  pub range : IfSome r InRange

@@ -2,10 +2,12 @@
 // Two coefficients in range may sum to 2,147,483,648, which 32 bits do not hold: sums are made in 64 bits, and then held to the range.
 #![tactic(auto)]
 
-ghost use Rattle.std.specs.Prelude.{◌≡◌, ◌+◌, ◌*◌, ◌≤◌, nat_abs, neg_ℤ, ◌+ℤ◌, length};
+ghost use Rattle.std.specs.Prelude.{◌≡◌, cond, ◌+◌, ◌*◌, ◌≤◌, nat_abs, neg_ℤ, ◌+ℤ◌, length};
 ghost use Rattle.amplitude.specs.Amp.{amp, timesω, ω^, ◌⊕◌, ◌⊖◌, most, in_range};
 ghost use Rattle.leafrows.specs.Value.{amp_is, InRange, Tested};
 ghost use Rattle.leafrows.specs.Row.{row_amp, row_set};
+
+use tables::put_leaf;
 
 // "a + bω + cω² + dω³"
 #[derive(Clone, Copy)]
@@ -16,24 +18,18 @@ pub struct Amplitude {
     pub d: i32,
 }
 
-// A sum or a difference, and whether it is in range. Where it is not, the four numbers are zero.
-#[derive(Clone, Copy)]
-pub struct Ranged {
-    pub ok: bool,
-    pub sum: Amplitude,
-}
-
 // The amplitude in row j.
 pub fn amplitude_at(coefs: &[i32], j: usize) -> Amplitude
     requires { j * 4 + 4 ≤ length coefs.now }
     ensures { amp_is result ≡ row_amp coefs.now j }
 {
     let at = j * 4;
-    let a = coefs[at];
-    let b = coefs[at + 1];
-    let c = coefs[at + 2];
-    let d = coefs[at + 3];
-    Amplitude { a, b, c, d }
+    Amplitude {
+        a: coefs[at],
+        b: coefs[at + 1],
+        c: coefs[at + 2],
+        d: coefs[at + 3],
+    }
 }
 
 // Row j becomes the amplitude. No other number changes.
@@ -41,15 +37,7 @@ pub fn store(coefs: &mut [i32], j: usize, x: Amplitude)
     requires { j * 4 + 4 ≤ length coefs.old }
     ensures { coefs.new ≡ row_set coefs.old j (amp_is x) }
 {
-    let at = j * 4;
-    let a = x.a;
-    let b = x.b;
-    let c = x.c;
-    let d = x.d;
-    coefs[at] = a;
-    coefs[at + 1] = b;
-    coefs[at + 2] = c;
-    coefs[at + 3] = d;
+    put_leaf(coefs, j, [x.a, x.b, x.c, x.d]);
 }
 
 // The negative of a coefficient in range: it is in range too.
@@ -57,7 +45,7 @@ fn negated(z: i32) -> i32
     requires { nat_abs z ≤ most }
     ensures { result ≡ neg_ℤ z }
 {
-    0 - z
+    -z
 }
 
 // "Times ω: (a,b,c,d) becomes (−d,a,b,c)."
@@ -65,9 +53,8 @@ fn times_omega(x: Amplitude) -> Amplitude
     requires { InRange x }
     ensures { amp_is result ≡ timesω (amp_is x) }
 {
-    let first = negated(x.d);
     Amplitude {
-        a: first,
+        a: negated(x.d),
         b: x.a,
         c: x.b,
         d: x.c,
@@ -80,10 +67,8 @@ pub fn turned(x: Amplitude, j: u8) -> Amplitude
     ensures { (amp_is result ≡ ω^ j (amp_is x)) × InRange result }
 {
     let mut product = x;
-    let mut done: u8 = 0;
-    while done < j {
+    for _ in 0..j {
         product = times_omega(product);
-        done += 1;
     }
     product
 }
@@ -92,49 +77,34 @@ pub fn turned(x: Amplitude, j: u8) -> Amplitude
 fn plus(x: i32, y: i32) -> i64
     ensures { result ≡ x +ℤ y }
 {
-    (x as i64) + (y as i64)
+    i64::from(x) + i64::from(y)
 }
 
-// A number is in the range of a coefficient, both ends among it.
-fn in_range(z: i64) -> bool
-    ensures { result ≡ in_range z }
+// A number as a coefficient, if it is in range, both ends among it.
+fn coefficient(z: i64) -> Option<i32>
+    ensures { result ≡ cond (in_range z) (Some z) None }
 {
-    (-1073741824 <= z) & (z <= 1073741824)
-}
-
-// A number in range, in 32 bits.
-fn narrow(z: i64) -> i32
-    requires { nat_abs z ≤ most }
-    ensures { result ≡ z }
-{
-    z as i32
+    if !(-1073741824..=1073741824).contains(&z) {
+        return None;
+    }
+    // Not try_from: the test above is the definition's, and its answer is the one that counts.
+    Some(z as i32)
 }
 
 // Four numbers as an amplitude, if all of them are in range.
-fn tested(a: i64, b: i64, c: i64, d: i64) -> Ranged
+fn tested(a: i64, b: i64, c: i64, d: i64) -> Option<Amplitude>
     ensures { Tested (amp a b c d) result }
 {
-    let ok = in_range(a) & (in_range(b) & (in_range(c) & in_range(d)));
-    if ok {
-        let sum = Amplitude {
-            a: narrow(a),
-            b: narrow(b),
-            c: narrow(c),
-            d: narrow(d),
-        };
-        return Ranged { ok: true, sum };
-    }
-    let sum = Amplitude {
-        a: 0,
-        b: 0,
-        c: 0,
-        d: 0,
-    };
-    Ranged { ok: false, sum }
+    Some(Amplitude {
+        a: coefficient(a)?,
+        b: coefficient(b)?,
+        c: coefficient(c)?,
+        d: coefficient(d)?,
+    })
 }
 
 // A + B, if it is in range.
-pub fn sum(x: Amplitude, y: Amplitude) -> Ranged
+pub fn sum(x: Amplitude, y: Amplitude) -> Option<Amplitude>
     ensures { Tested (amp_is x ⊕ amp_is y) result }
 {
     tested(
@@ -146,7 +116,7 @@ pub fn sum(x: Amplitude, y: Amplitude) -> Ranged
 }
 
 // A − B, if it is in range: since ω⁴ = −1 it is A + ω⁴B.
-pub fn difference(x: Amplitude, y: Amplitude) -> Ranged
+pub fn difference(x: Amplitude, y: Amplitude) -> Option<Amplitude>
     requires { InRange y }
     ensures { Tested (amp_is x ⊖ amp_is y) result }
 {

@@ -7,7 +7,7 @@ ghost use Rattle.std.specs.Prelude.{◌≤◌, length};
 
 use buffers::{HINTS, MARKS};
 use checkjob::check;
-use replies::Reply;
+use replies::{Fields, Reply};
 use std::io;
 use terms::Terms;
 
@@ -46,43 +46,17 @@ fn put_number(rt: &impl Print, n: usize) -> io::Result<()> {
 }
 
 // How many cells from the front have this value.
-fn front_u32(buf: &[u32], value: u32) -> usize
+fn front<T: PartialEq>(buf: &[T], value: &T) -> usize
     ensures { result ≤ length buf.now }
 {
-    let mut i = 0;
-    while i < buf.len() {
-        if buf[i] != value {
-            return i;
-        }
-        i += 1;
-    }
-    i
-}
-
-fn front_u8(buf: &[u8], value: u8) -> usize
-    ensures { result ≤ length buf.now }
-{
-    let mut i = 0;
-    while i < buf.len() {
-        if buf[i] != value {
-            return i;
-        }
-        i += 1;
-    }
-    i
+    buf.iter().position(|x| x != value).unwrap_or(buf.len())
 }
 
 // Zero cells, and then cells as they were.
-fn tell_u32(rt: &impl Print, buf: &[u32]) -> io::Result<()> {
-    let zeros = front_u32(buf, 0);
+fn tell<T: PartialEq>(rt: &impl Print, buf: &[T], zero: &T, old: &T) -> io::Result<()> {
+    let zeros = front(buf, zero);
     put_number(rt, zeros)?;
-    put_number(rt, front_u32(&buf[zeros..], 7))
-}
-
-fn tell_u8(rt: &impl Print, buf: &[u8]) -> io::Result<()> {
-    let zeros = front_u8(buf, 0);
-    put_number(rt, zeros)?;
-    put_number(rt, front_u8(&buf[zeros..], 7))
+    put_number(rt, front(&buf[zeros..], old))
 }
 
 // One check of a start set, a circuit and an end set, with so many cells lent of each buffer.
@@ -125,12 +99,13 @@ fn run(rt: &impl Print, start: &[u8], circuit: &[u8], end: &[u8], sizes: Sizes) 
     let reply = lend(
         start, circuit, end, sizes, &mut met, &mut stack, &mut kept, &mut hints,
     );
-    put_digit(rt, reply.kind)?;
-    put_number(rt, reply.number as usize)?;
-    tell_u32(rt, &met)?;
-    tell_u32(rt, &stack)?;
-    tell_u32(rt, &kept)?;
-    tell_u8(rt, &hints)?;
+    let fields = Fields::from(reply);
+    put_digit(rt, fields.kind)?;
+    put_number(rt, usize::from(fields.number))?;
+    tell(rt, &met, &0, &7)?;
+    tell(rt, &stack, &0, &7)?;
+    tell(rt, &kept, &0, &7)?;
+    tell(rt, &hints, &0, &7)?;
     println!(rt)
 }
 
@@ -144,51 +119,41 @@ fn all_replies(rt: &impl Print, sizes: Sizes) -> io::Result<()>
 }
 
 fn main(rt: HostRuntime) -> io::Result<()> {
+    let just = Sizes {
+        met: MARKS,
+        stack: MARKS,
+        kept: MARKS,
+        hints: HINTS,
+    };
     all_replies(
         &rt,
         Sizes {
             met: MARKS - 1,
-            stack: MARKS,
-            kept: MARKS,
-            hints: HINTS,
+            ..just
         },
     )?;
     all_replies(
         &rt,
         Sizes {
-            met: MARKS,
             stack: MARKS - 1,
-            kept: MARKS,
-            hints: HINTS,
+            ..just
         },
     )?;
     all_replies(
         &rt,
         Sizes {
-            met: MARKS,
-            stack: MARKS,
             kept: MARKS - 1,
-            hints: HINTS,
+            ..just
         },
     )?;
     all_replies(
         &rt,
         Sizes {
-            met: MARKS,
-            stack: MARKS,
-            kept: MARKS,
             hints: HINTS - 1,
+            ..just
         },
     )?;
-    all_replies(
-        &rt,
-        Sizes {
-            met: MARKS,
-            stack: MARKS,
-            kept: MARKS,
-            hints: HINTS,
-        },
-    )?;
+    all_replies(&rt, just)?;
     all_replies(
         &rt,
         Sizes {

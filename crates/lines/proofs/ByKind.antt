@@ -5,13 +5,13 @@ use mathlib.Core.List.{List, [], ◌∷◌, ◌++◌}
 use Prim.Native.Nat.{ℕ}
 use lib.ListN.{take}
 use borrow.Author.Tests.{ne_eqb}
-use Rattle.replies.specs.declared.Reply.{Reply}
-use Rattle.lines.specs.Numeral.{fields_of}
+use Rattle.replies.specs.declared.Fields.{Fields}
+use Rattle.lines.specs.Numeral.{field_list}
 use Rattle.lines.specs.Put.{Put}
 use Rattle.lines.specs.Printed.{refused_name, holds_name, fails_name, undecided_name, words_of, line_of, fits, printed_in, printed_length}
 
-module _ (r : Reply) (choices : ℕ) where
-  pub words-refused : r.kind ≡ 0 → refused_name ++ fields_of (r.number ∷ r.source ∷ r.place ∷ []) ≡ words_of r choices
+module _ (r : Fields) (choices : ℕ) where
+  pub words-refused : r.kind ≡ 0 → refused_name ++ field_list (r.number ∷ r.source ∷ r.place ∷ []) ≡ words_of r choices
   unfolding words_of
   words-refused e = rw e
 
@@ -19,16 +19,16 @@ module _ (r : Reply) (choices : ℕ) where
   unfolding words_of
   words-made e = rw e
 
-  pub words-holds : r.kind ≡ 2 → holds_name ++ fields_of (r.count ∷ []) ≡ words_of r choices
+  pub words-holds : r.kind ≡ 2 → holds_name ++ field_list (r.count ∷ []) ≡ words_of r choices
   unfolding words_of
   words-holds e = rw e
 
-  pub words-fails : r.kind ≡ 3 → fails_name ++ fields_of (r.count ∷ r.root ∷ take choices r.word) ≡ words_of r choices
+  pub words-fails : r.kind ≡ 3 → fails_name ++ field_list (r.count ∷ r.root ∷ take choices r.word) ≡ words_of r choices
   unfolding words_of
   words-fails e = rw e
 
   pub words-undecided : (r.kind ≡ 0 → ⊥) → (r.kind ≡ 1 → ⊥) → (r.kind ≡ 2 → ⊥) → (r.kind ≡ 3 → ⊥)
-      → undecided_name ++ fields_of (r.count ∷ []) ≡ words_of r choices
+      → undecided_name ++ field_list (r.count ∷ []) ≡ words_of r choices
   unfolding words_of
   words-undecided a b c d = rw (ne_eqb r.kind 0 a, ne_eqb r.kind 1 b, ne_eqb r.kind 2 c, ne_eqb r.kind 3 d)
 

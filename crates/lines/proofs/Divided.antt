@@ -1,64 +1,31 @@
--- An input that is not refused holds its three parts, one after the other, and no more: the parts that `divide` gives the places of are the
--- definitions' own. Assumes nothing.
-use mathlib.Core.Path.{◌≡◌, refl, sym, ap, subst, ◌∙◌}
+-- An input that is not refused holds its three parts, one after the other, and no more. Assumes nothing.
+use mathlib.Core.Path.{◌≡◌, ◌∙◌}
 use mathlib.Core.Bool.{Bool, true, false, ◌&&◌}
 use mathlib.Core.List.{List}
 use Prim.Native.Nat.{ℕ, ◌+◌, ◌-◌, ◌≤◌, ◌<◌}
 use native.Mathlib.Omega.{arith}
-use lib.ListN.{length, take, drop}
+use lib.ListN.{length, take, drop, length-drop}
+use lib.Seq.{drop-drop, length-take-le}
 use lib.Dec.{leb}
 use borrow.Author.Tests.{eqb-true, le-leb, lt-leb}
 use Rattle.amplitude.proofs.Equal.{both}
 use Rattle.stored.specs.Fields.{u32_at, mark_at}
 use Rattle.packing.proofs.Front.{tail_lent}
-use Rattle.jobs.specs.Program.{fixed_size, part_most, start_part, circuit_part, end_part, allowance_of, input_ok}
-use Rattle.lines.specs.declared.input.Parts.{Parts}
-use Rattle.lines.specs.Divided.{no_parts, parts_with, parts_of, lengths_fit}
+use Rattle.jobs.specs.Program.{fixed_size, part_most, input_ok}
+use Rattle.lines.specs.Divided.{lengths_fit, Divided}
 
--- ---- the input's tests
-too_short : (s : List ℕ) → leb fixed_size (length s) ≡ false → input_ok s ≡ false
+pub too_short : (s : List ℕ) → length s < fixed_size → input_ok s ≡ false
 unfolding input_ok
-too_short s e = rw e
+too_short s h = rw (lt-leb fixed_size (length s) h)
 
-long_enough : (s : List ℕ) → leb fixed_size (length s) ≡ true
+-- the two tests of an input that has its first 18 bytes
+pub long_enough : (s : List ℕ) → fixed_size ≤ length s
     → input_ok s ≡ (mark_at 74 66 s 0 && lengths_fit (length s) (u32_at s 6) (u32_at s 10) (u32_at s 14))
 unfolding input_ok lengths_fit
-long_enough s e = rw e
-
-parts_good : (s : List ℕ) → input_ok s ≡ true → parts_with (allowance_of s) (u32_at s 6) (u32_at s 10) ≡ parts_of s
-unfolding parts_of
-parts_good s e = rw e
-
-pub parts_bad : (s : List ℕ) → input_ok s ≡ false → no_parts ≡ parts_of s
-unfolding parts_of
-parts_bad s e = rw e
-
-pub parts_short : (s : List ℕ) → length s < fixed_size → no_parts ≡ parts_of s
-parts_short s h = parts_bad s (too_short s (lt-leb fixed_size (length s) h))
-
--- what was read of an input that has its first 18 bytes, and the test of it
-module _ (s : List ℕ) {allowance start circuit end : ℕ} {mark fit : Bool} (long : fixed_size ≤ length s)
-    (b : allowance ≡ u32_at s 2) (x : start ≡ u32_at s 6) (y : circuit ≡ u32_at s 10) (z : end ≡ u32_at s 14)
-    (m : mark ≡ mark_at 74 66 s 0) (f : fit ≡ lengths_fit (length s) start circuit end) where
-  pub judged : {ok : Bool} → (mark && fit) ≡ ok → input_ok s ≡ ok
-  judged e = long_enough s (le-leb fixed_size (length s) long) ∙ (simp (m, f, x, y, z) at e)
-
-  pub parts_read : (mark && fit) ≡ true → parts_with allowance start circuit ≡ parts_of s
-  parts_read e = rw (b, x, y) (parts_good s (judged e))
-
--- ---- the parts
--- where an input may be read: the allowance, two places in order, and what stands between them
-pub record Divided (s : List ℕ) (p : Parts) : Type 0 where
-  pub allowance : p.allowance ≡ allowance_of s
-  pub front : fixed_size ≤ p.first
-  pub order : p.first ≤ p.second
-  pub within : p.second ≤ length s
-  pub start : take (p.first - fixed_size) (drop fixed_size s) ≡ start_part s
-  pub circuit : take (p.second - p.first) (drop p.first s) ≡ circuit_part s
-  pub end : take (length s - p.second) (drop p.second s) ≡ end_part s
+long_enough s h = rw (le-leb fixed_size (length s) h)
 
 -- an input that is not refused is 18 bytes plus the lengths
-whole : (s : List ℕ) → input_ok s ≡ true → length s ≡ fixed_size + u32_at s 6 + u32_at s 10 + u32_at s 14
+pub whole : (s : List ℕ) → input_ok s ≡ true → length s ≡ fixed_size + u32_at s 6 + u32_at s 10 + u32_at s 14
 unfolding input_ok
 whole s e =
     let a = both (leb fixed_size (length s)) _ e in
@@ -68,32 +35,37 @@ whole s e =
     let f = both (leb (u32_at s 14) part_most) _ d.1 in
     eqb-true (length s) (fixed_size + u32_at s 6 + u32_at s 10 + u32_at s 14) f.1
 
-divided_at : (s : List ℕ) → input_ok s ≡ true → Divided s (parts_with (allowance_of s) (u32_at s 6) (u32_at s 10))
-divided_at s e =
-    let w = whole s e in
-    let first : ℕ = fixed_size + u32_at s 6 in
-    let one : first - fixed_size ≡ u32_at s 6 = omega arith in
-    let two : first + u32_at s 10 - first ≡ u32_at s 10 = omega arith in
-    record {
-      allowance = refl;
-      front = omega arith;
-      order = omega arith;
-      within = omega arith;
-      start = ap (λ (n : ℕ). take n (drop fixed_size s)) one;
-      circuit = ap (λ (n : ℕ). take n (drop first s)) two;
-      end = tail_lent s (first + u32_at s 10);
-    }
+-- what was read of an input that has its first 18 bytes, and the test of it
+module _ (s : List ℕ) {start circuit end : ℕ} {mark fit : Bool} (long : fixed_size ≤ length s)
+    (x : start ≡ u32_at s 6) (y : circuit ≡ u32_at s 10) (z : end ≡ u32_at s 14)
+    (m : mark ≡ mark_at 74 66 s 0) (f : fit ≡ lengths_fit (length s) start circuit end) where
+  pub judged : input_ok s ≡ (mark && fit)
+  judged = rw (long_enough s long, m, f, x, y, z)
 
-module _ (s : List ℕ) {p : Parts} (is : p ≡ parts_of s) where
-  -- refusal 18, exactly
-  pub ok-is : p.ok ≡ input_ok s
-  ok-is = ap (λ (q : Parts). q.ok) is ∙ by (input_ok s) refl
-    where
-      by : (b : Bool) → input_ok s ≡ b → (parts_of s).ok ≡ b
-      by true e = ap (λ (q : Parts). q.ok) (sym (parts_good s e))
-      by false e = ap (λ (q : Parts). q.ok) (sym (parts_bad s e))
+  module _ (marked : mark ≡ true) (fits : fit ≡ true) where
+    taken : input_ok s ≡ true
+    taken = judged ∙ rw (marked, fits)
 
-  pub divided : p.ok ≡ true → Divided s p
-  divided e =
-      let good : input_ok s ≡ true = sym ok-is ∙ e in
-      subst (Divided s) (parts_good s good ∙ sym is) (divided_at s good)
+    -- what follows the first 18 bytes
+    abbrev rest : List ℕ
+    rest = take (length s - fixed_size) (drop fixed_size s)
+
+    pub first_within : start ≤ length rest
+    first_within = rw (tail_lent s fixed_size, length-drop fixed_size s) (omega (arith, x, whole s taken))
+
+    pub second_within : {left : List ℕ} → left ≡ drop start rest → circuit ≤ length left
+    second_within e = rw (e, tail_lent s fixed_size, length-drop start (drop fixed_size s), length-drop fixed_size s) (omega (arith, x, y, whole s taken))
+
+    pub divided : {most : ℕ} {one two three left : List ℕ} → most ≡ u32_at s 2 → left ≡ drop start rest
+        → one ≡ take start rest → two ≡ take circuit left → three ≡ drop circuit left → Divided s most one two three
+    divided {left = left} m l a b c =
+        let front = tail_lent s fixed_size in
+        record {
+          good = taken;
+          most = m;
+          first = rw (a, front, x);
+          second = rw (b, l, front, y, x, drop-drop (u32_at s 6) fixed_size s);
+          last = rw (c, l, front, y, x, drop-drop (u32_at s 6) fixed_size s, drop-drop (u32_at s 10) (fixed_size + u32_at s 6) s);
+          first_long = rw a (length-take-le start rest first_within) ∙ x;
+          second_long = rw b (length-take-le circuit left (second_within l)) ∙ y;
+        }

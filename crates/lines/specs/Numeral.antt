@@ -11,5 +11,5 @@ numeral n = decimal n
 abbrev pub field : ℕ → List ℕ
 field n = 32 ∷ numeral n
 
-abbrev pub fields_of : List ℕ → List ℕ
-fields_of ns = flat field ns
+abbrev pub field_list : List ℕ → List ℕ
+field_list ns = flat field ns

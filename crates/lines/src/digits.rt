@@ -1,4 +1,5 @@
-// Numbers in decimal digits, without leading zeros, at the front of a slice that the caller lends; what stands after them is as it was.
+// Numbers in decimal digits, without leading zeros, at the front of a slice that the caller lends; what stands after them is as it was. By hand: what
+// std says of `write!` into a slice holds only where it answers Ok, and no clause says that it does where there is room.
 ghost use Rattle.std.specs.Prelude.{◌≡◌, ◌+◌, ◌≤◌, ◌<◌, length};
 ghost use Rattle.packing.specs.Written.{at_front};
 ghost use Rattle.lines.specs.Numeral.{numeral};

@@ -4,12 +4,12 @@
 // asks nothing of its caller.
 ghost use Rattle.std.specs.Prelude.{◌≡◌, [], ◌∷◌, ◌++◌, ◌+◌, ◌*◌, ◌≤◌, length, take};
 ghost use Rattle.jobs.specs.Reply.{word_places};
-ghost use Rattle.lines.specs.Numeral.{field, fields_of};
+ghost use Rattle.lines.specs.Numeral.{field, field_list};
 ghost use Rattle.lines.specs.Put.{Put};
 ghost use Rattle.lines.specs.Printed.{refused_name, fails_name, words_of, words_most, words_room, line_of, line_room, printed_in, printed_length};
 
 use crate::digits::put_decimal;
-use replies::{FAILS, HOLDS, MADE, REFUSED, Reply, put_bytes};
+use replies::{FAILS, Fields, HOLDS, MADE, REFUSED, put_bytes};
 
 // Room for every line.
 pub const LINE_ROOM: usize = 160;
@@ -29,13 +29,11 @@ fn put_field(out: &mut [u8], n: u32) -> usize
 // A field for each of the numbers.
 fn put_fields(out: &mut [u8], numbers: &[u8]) -> usize
     requires { 4 * length numbers.now + 7 ≤ length out.old }
-    ensures { Put (fields_of numbers.now) (4 * length numbers.now) out.old out.new result }
+    ensures { Put (field_list numbers.now) (4 * length numbers.now) out.old out.new result }
 {
     let mut at = 0;
-    let mut i = 0;
-    while i < numbers.len() {
-        at += put_field(&mut out[at..], numbers[i] as u32);
-        i += 1;
+    for number in numbers {
+        at += put_field(&mut out[at..], u32::from(*number));
     }
     at
 }
@@ -43,7 +41,7 @@ fn put_fields(out: &mut [u8], numbers: &[u8]) -> usize
 // A word and a count.
 fn put_count(out: &mut [u8], name: &[u8], count: u32) -> usize
     requires { length name.now + 11 ≤ length out.old }
-    ensures { Put (name.now ++ fields_of (count ∷ [])) (length name.now + 11) out.old out.new result }
+    ensures { Put (name.now ++ field_list (count ∷ [])) (length name.now + 11) out.old out.new result }
 {
     let at = name.len();
     put_bytes(out, name);
@@ -51,58 +49,43 @@ fn put_count(out: &mut [u8], name: &[u8], count: u32) -> usize
 }
 
 // "`refused` number, source, place"
-fn put_refused(out: &mut [u8], number: u8, source: u8, place: u32) -> usize
+fn put_refused(out: &mut [u8], reply: Fields) -> usize
     requires { 40 ≤ length out.old }
-    ensures { Put (refused_name ++ fields_of (number ∷ source ∷ place ∷ [])) 26 out.old out.new result }
+    ensures { Put (refused_name ++ field_list (reply.number ∷ reply.source ∷ reply.place ∷ [])) 26 out.old out.new result }
 {
-    let first = [number, source];
     put_bytes(out, b"refused");
-    let at = 7 + put_fields(&mut out[7..], &first);
-    at + put_field(&mut out[at..], place)
+    let at = 7 + put_fields(&mut out[7..], &[reply.number, reply.source]);
+    at + put_field(&mut out[at..], reply.place)
 }
 
 // "`fails` place, root, the word's n+1 choices": of the word's places as many as are asked for.
 fn put_fails(out: &mut [u8], place: u32, root: u16, word: &[u8], choices: usize) -> usize
     requires { (words_room ≤ length out.old) × (choices ≤ word_places) × (choices ≤ length word.now) }
-    ensures { Put (fails_name ++ fields_of (place ∷ root ∷ take choices word.now)) words_most out.old out.new result }
+    ensures { Put (fails_name ++ field_list (place ∷ root ∷ take choices word.now)) words_most out.old out.new result }
 {
     put_bytes(out, b"fails");
     let root_at = 5 + put_field(&mut out[5..], place);
-    let word_at = root_at + put_field(&mut out[root_at..], root as u32);
+    let word_at = root_at + put_field(&mut out[root_at..], u32::from(root));
     word_at + put_fields(&mut out[word_at..], &word[..choices])
 }
 
-// The same of a reply.
-fn put_failed(out: &mut [u8], reply: Reply, choices: u8) -> usize
-    requires { (words_room ≤ length out.old) × (choices ≤ word_places) }
-    ensures { Put (fails_name ++ fields_of (reply.count ∷ reply.root ∷ take choices reply.word)) words_most out.old out.new result }
-{
-    let word = reply.word;
-    put_fails(out, reply.count, reply.root, &word, choices as usize)
-}
-
 // The words and numbers of a line, by the reply's kind; `made`, which the program never replies, has none.
-fn put_words(out: &mut [u8], reply: Reply, choices: u8) -> usize
+fn put_words(out: &mut [u8], reply: Fields, choices: u8) -> usize
     requires { (words_room ≤ length out.old) × (choices ≤ word_places) }
     ensures { Put (words_of reply choices) words_most out.old out.new result }
 {
-    if reply.kind == REFUSED {
-        return put_refused(out, reply.number, reply.source, reply.place);
+    let word = reply.word;
+    match reply.kind {
+        REFUSED => put_refused(out, reply),
+        MADE => 0,
+        HOLDS => put_count(out, b"holds", reply.count),
+        FAILS => put_fails(out, reply.count, reply.root, &word, usize::from(choices)),
+        _ => put_count(out, b"undecided", reply.count),
     }
-    if reply.kind == MADE {
-        return 0;
-    }
-    if reply.kind == HOLDS {
-        return put_count(out, b"holds", reply.count);
-    }
-    if reply.kind == FAILS {
-        return put_failed(out, reply, choices);
-    }
-    put_count(out, b"undecided", reply.count)
 }
 
 // The words and numbers of a line, and its end.
-fn put_whole(out: &mut [u8], reply: Reply, choices: u8) -> usize
+fn put_whole(out: &mut [u8], reply: Fields, choices: u8) -> usize
     requires { (line_room ≤ length out.old) × (choices ≤ word_places) }
     ensures { Put (line_of reply choices) 112 out.old out.new result }
 {
@@ -113,7 +96,7 @@ fn put_whole(out: &mut [u8], reply: Reply, choices: u8) -> usize
 
 // A reply's line at the front of `out`, with the first `choices` places of its word, and how long it is. Where fewer than 160 bytes are lent,
 // or more than 21 choices are asked for, nothing is written and 0 comes back.
-pub fn put_line(reply: Reply, choices: u8, out: &mut [u8]) -> usize
+pub fn put_line(reply: Fields, choices: u8, out: &mut [u8]) -> usize
     ensures value { result ≡ printed_length reply choices out.old }
     ensures out_after { out.new ≡ printed_in reply choices out.old }
 {

@@ -6,11 +6,10 @@ use Prim.Native.Nat.{ℕ, ◌+◌}
 use native.Mathlib.Omega.{arith}
 use lib.Dec.{eqb}
 use lib.IntN.{ℤ}
-use lib.ListN.{length}
 use borrow.Author.Tests.{eqb-true}
 use Rattle.amplitude.proofs.Equal.{both}
 use Rattle.automata.specs.Sets.{QSet, sum, roots}
-use Rattle.stored.specs.Refusal.{Judged, good}
+use Rattle.stored.specs.Refusal.{good}
 use Rattle.stored.specs.Form as stored
 use Rattle.stored.specs.Form.{set_of, tr_at, lf_at, trs_at, lfs_at, tr_size, lf_size, file_size}
 use Rattle.stored.specs.Rules.{Bounds, n_most, levels_ok}
@@ -19,11 +18,14 @@ use Rattle.stored.proofs.WellFormed.{WellFormed}
 use Rattle.stored.proofs.Reading.{Bytes, records-count, judged, passed-formed, good-same}
 use Rattle.tables.specs.States.{state_at, Rising}
 use Rattle.tables.specs.Ready.{Ready, Roomy, Unpacked}
+use Rattle.tables.specs.Slices.{Table, SameLengths, RoomyOn}
 use Rattle.tables.proofs.Ordered.{formed-rises}
 use Rattle.setfile.specs.declared.Form.{Form}
-use Rattle.refusals.specs.declared.Refusal.{Refusal}
-use Rattle.setfile.specs.declared.SetAnswer.TheVariants.{Bad}
-use Rattle.setfile.specs.Answer.{form_read, answer_of}
+use Rattle.std.specs.declared.result.Result.TheVariants.{Ok, Err}
+use Rattle.refusals.specs.declared.Fault.{Fault}
+use Rattle.refusals.specs.Refused.{judged_at, seen}
+use Rattle.refusals.proofs.Told.{fault_at}
+use Rattle.setfile.specs.Answer.{form_read}
 use Rattle.setfile.proofs.Taken.{Taken}
 use Rattle.standing.specs.Standing.{form_of, Holding}
 use Rattle.standing.proofs.StandingLaws.{holding}
@@ -40,6 +42,10 @@ module _ {b : Bounds} {source : ℕ} {s : List ℕ} {f : Form} (t : Taken b sour
       let F = stored.form_of s in
       let c = levelled in
       t.form ∙ rw (c, records-count (tr_at s) (trs_at F) tr_size F.inner, records-count (lf_at F.k s) (lfs_at F) lf_size F.leaves) refl
+
+  -- the code's answer of it
+  pub taken_value : judged_at source (Ok f) ≡ seen form_of (judge_set b source s)
+  taken_value = rw t.good (ap good form-taken)
 
   module _ (bytes : Bytes s) where
     pub formed-taken : WellFormed b (set_of s)
@@ -74,18 +80,20 @@ module _ {b : Bounds} {source : ℕ} {s : List ℕ} {f : Form} (t : Taken b sour
           subst (λ (P : QSet). Holding rows masks coefs counts first P b) (good-same (set_of s) Q (sym t.good ∙ e))
           (holding formed-taken u (subst (λ (g : Form). Roomy rows masks coefs counts first g.n g.states g.inner g.leaves) form-taken r))
 
--- the slices' lengths stay
-pub roomy-kept : {rows masks : List ℕ} {coefs : List ℤ} {counts first rows' masks' : List ℕ} {coefs' : List ℤ} {counts' first' : List ℕ} {n states inner leaves : ℕ}
-    → Roomy rows masks coefs counts first n states inner leaves → length rows' ≡ length rows → length masks' ≡ length masks → length coefs' ≡ length coefs → length counts' ≡ length counts
-    → length first' ≡ length first → Roomy rows' masks' coefs' counts' first' n states inner leaves
-roomy-kept r a b c d e = record {
-  table = record { wide = omega (arith, r.table.wide); long = omega (arith, r.table.long) };
-  amplitudes = omega (arith, r.amplitudes);
-  levels = omega (arith, r.levels);
-  begins = omega (arith, r.begins);
+-- a table whose slices keep their lengths has the room that it had
+pub roomy-kept : {T T' : Table} {n states inner leaves : ℕ} → RoomyOn T n states inner leaves → SameLengths T T' → RoomyOn T' n states inner leaves
+roomy-kept r k = record {
+  table = record { wide = omega (arith, r.table.wide, k.rows); long = omega (arith, r.table.long, k.masks) };
+  amplitudes = omega (arith, r.amplitudes, k.coefs);
+  levels = omega (arith, r.levels, k.counts);
+  begins = omega (arith, r.begins, k.first);
   few = r.few;
 }
 
--- a refusal is of a file that is not good
-pub not_taken : (j : Judged QSet) (f : Form) (r : Refusal) (Q : QSet) → Bad r ≡ answer_of j f → j ≡ good Q → ⊥
-not_taken j f r Q e g = let z : ◌≡◌ {A = ℕ} 0 1 = cc in omega arith
+-- a file with a fault is refused for it, and holds no set
+module _ (b : Bounds) (source : ℕ) (s : List ℕ) (r : Fault) (e : judged_at source (Err r) ≡ seen (λ (Q : QSet). form_read s) (judge_set b source s)) where
+  pub fault_value : judged_at source (Err r) ≡ seen form_of (judge_set b source s)
+  fault_value = rw (fault_at (λ (Q : QSet). form_read s) source (judge_set b source s) r e) refl
+
+  pub not_good : (Q : QSet) → judge_set b source s ≡ good Q → ⊥
+  not_good Q g = let h = fault_at (λ (Q : QSet). form_read s) source (judge_set b source s) r e in let z : ◌≡◌ {A = ℕ} 0 1 = cc in omega arith

@@ -3,11 +3,12 @@ use mathlib.Core.Path.{◌≡◌, sym, ap, ◌∙◌}
 use mathlib.Core.Bool.{Bool, true, false, cond}
 use mathlib.Core.List.{List}
 use mathlib.Core.Option.{none, some}
-use Prim.Native.Nat.{ℕ, suc, ◌+◌, ◌-◌, ◌<◌, ◌≤◌, min}
-use native.Mathlib.Decide.{dec_lt}
+use Prim.Native.Nat.{ℕ, suc, ◌+◌, ◌-◌, ◌<◌, ◌≤◌}
 use native.Mathlib.Numerals.{add-one}
 use native.Mathlib.Omega.{arith}
 use lib.Bits.{bit_or}
+use Rattle.std.specs.Int.Bits.{or_zero_r}
+use Rattle.std.proofs.lemmas.Nat.Bits.{bit_at_or, same_from_bits}
 use lib.ListN.{get_or}
 use Rattle.automata.specs.Choice.{has}
 use Rattle.lookup.specs.Lookup.{row_with, union_of}
@@ -29,22 +30,18 @@ module _ (masks : List ℕ) (c i to : ℕ) where
   unfolding row_with
   row-none h = let e : to - i ≡ 0 = omega arith in ap (row_with masks c i) e
 
-module _ (masks : List ℕ) (to : ℕ) where
-  pub union-none : (i : ℕ) → to ≤ i → union_of masks i (to - i) ≡ 0
-  unfolding union_of
-  union-none i h = let e : to - i ≡ 0 = omega arith in ap (union_of masks i) e
+or_assoc : (a b c : ℕ) → bit_or (bit_or a b) c ≡ bit_or a (bit_or b c)
+or_assoc a b c = same_from_bits _ _ (λ i. omega (arith, bit_at_or (bit_or a b) c i, bit_at_or a b i, bit_at_or a (bit_or b c) i, bit_at_or b c i))
 
-  -- one row more, before the others
-  pub union_more : (i : ℕ) → 0 < i → i ≤ to → union_of masks (i - 1) (to - (i - 1)) ≡ bit_or (get_or masks (i - 1) 0) (union_of masks i (to - i))
+module _ (masks : List ℕ) (all i to : ℕ) where
+  -- the first row of those left is joined to what is collected
+  pub union_more : i < to → bit_or (bit_or all (get_or masks i 0)) (union_of masks (i + 1) (to - (i + 1))) ≡ bit_or all (union_of masks i (to - i))
   unfolding union_of
-  union_more i h k =
-      let e : to - (i - 1) ≡ suc (to - i) = omega arith in
-      let n : suc (i - 1) ≡ i = omega arith in
-      ap (union_of masks (i - 1)) e ∙ ap (λ (j : ℕ). bit_or (get_or masks (i - 1) 0) (union_of masks j (to - i))) n
+  union_more h =
+      let e : to - i ≡ suc (to - (i + 1)) = omega arith in
+      rw e (or_assoc all (get_or masks i 0) (union_of masks (i + 1) (to - (i + 1))) ∙ ap (λ (j : ℕ). bit_or all (bit_or (get_or masks i 0) (union_of masks j (to - (i + 1))))) (add-one i))
 
-  pub union-all : (from i : ℕ) → i ≤ from → i ≤ to → min from to ≤ i → union_of masks i (to - i) ≡ union_of masks from (to - from)
-  union-all from i a b m = go (dec_lt to from)
-    where
-      go : Dec (to < from) → union_of masks i (to - i) ≡ union_of masks from (to - from)
-      go (yes h) = union-none i (omega arith) ∙ sym (union-none from (omega arith))
-      go (no h) = let e : i ≡ from = omega arith in ap (λ (j : ℕ). union_of masks j (to - j)) e
+  -- no row is left
+  pub union-none : to ≤ i → bit_or all (union_of masks i (to - i)) ≡ all
+  unfolding union_of
+  union-none h = let e : to - i ≡ 0 = omega arith in rw e (or_zero_r all)

@@ -1,9 +1,8 @@
 -- The code's answer of a lookup: a row's number, or nothing.
-use Rattle.std.proofs.Math.Option.{Option, none, some}
-use Rattle.std.specs.Prelude.{ℕ}
-use Rattle.lookup.specs.declared.Found.{Found}
-use Rattle.lookup.specs.declared.Found.TheVariants.{Row, Nothing}
+use Rattle.std.specs.Prelude.{ℕ, Option, Some, None}
+use Rattle.std.proofs.Math.Option.{none, some}
+use Rattle.std.proofs.Math.Option as listed
 
-abbrev pub found : Option ℕ → Found
-found none = Nothing
-found (some i) = Row i
+abbrev pub found : listed.Option ℕ → Option ℕ
+found none = None
+found (some i) = Some i

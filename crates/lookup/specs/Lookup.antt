@@ -1,5 +1,5 @@
 -- Document 01, "each state reached has a transition with its level's choice": the row of that transition in a table, and a state's choices.
-use Rattle.std.specs.Prelude.{Bool, true, false, cond, List, ℕ, zero, suc, ◌+◌, ◌-◌, ◌*◌, ℤ, get_or}
+use Rattle.std.specs.Prelude.{Bool, true, false, cond, List, ℕ, zero, suc, ◌+◌, ◌-◌, ◌*◌, ◌<◌, ◌≤◌, ℤ, length, get_or}
 use Rattle.std.proofs.Math.Option.{Option, none, some}
 use Rattle.std.specs.Int.Bits.{bit_or}
 use Rattle.amplitude.specs.Leaf.{Leaf}
@@ -19,6 +19,10 @@ transition_row masks first s c = row_with masks c (get_or first s 0) (get_or fir
 unfoldable pub union_of : List ℕ → ℕ → ℕ → ℕ
 union_of masks from zero = 0
 union_of masks from (suc count) = bit_or (get_or masks from 0) (union_of masks (suc from) count)
+
+-- a state has its rows in the slices: those from where it begins up to where the next state does
+abbrev pub HasState : List ℕ → List ℕ → ℕ → Type 0
+HasState masks first s = (s + 1 < length first) × (get_or first (s + 1) 0 ≤ length masks)
 
 -- the choices of state s
 abbrev pub choices_of : List ℕ → List ℕ → ℕ → ℕ

@@ -9,7 +9,7 @@ use lib.Dec.{eqb}
 use lib.Pow.{pow-add, pow_mono}
 use Rattle.automata.specs.Choice.{has, least}
 use Rattle.automata.proofs.Masks.{has-zero, below-least, least_in}
-use Rattle.masks.specs.Next.{NextChoice}
+use Rattle.masks.specs.Next.{FirstFrom, NoneFrom}
 
 -- a 32-bit mask has no other choices
 below_32 : (mask c : ℕ) → mask < 2 ^ 32 → has mask c ≡ true → c < 32
@@ -23,8 +23,8 @@ below_32 mask c small h = go (dec_lt c 32)
         let lt : mask < 2 ^ c = omega arith in
         absurd (false≢true (sym (ap (λ (x : ℕ). eqb (x % 2) 1) (div-eq_of_lt lt)) ∙ h))
 
-pub none_left : (mask from : ℕ) → from ≤ 32 → 32 ≤ from → NextChoice mask from 32
-none_left mask from h k = record { after = h; most = omega arith; skipped = λ d lo hi. absurd (omega arith); here = λ l. absurd (omega arith) }
+pub none_left : (mask from : ℕ) → 32 ≤ from → NoneFrom mask from
+none_left mask from h = record { all = λ d lo hi. absurd (omega arith) }
 
 -- what is left of the mask from choice `from` on
 module _ (mask from : ℕ) where
@@ -34,13 +34,8 @@ module _ (mask from : ℕ) where
   back : (d : ℕ) → from ≤ d → has mask d ≡ has (mask / 2 ^ from) (d - from)
   back d lo = let e : from + (d - from) ≡ d = omega arith in ap (has mask) (sym e) ∙ sym (shifted (d - from))
 
-  pub no_next : from < 32 → mask / 2 ^ from ≡ 0 → NextChoice mask from 32
-  no_next h none = record {
-    after = omega arith;
-    most = omega arith;
-    skipped = λ d lo hi. back d lo ∙ ap (λ (x : ℕ). has x (d - from)) none ∙ has-zero (d - from);
-    here = λ l. absurd (omega arith);
-  }
+  pub no_next : mask / 2 ^ from ≡ 0 → NoneFrom mask from
+  no_next none = record { all = λ d lo hi. back d lo ∙ ap (λ (x : ℕ). has x (d - from)) none ∙ has-zero (d - from) }
 
   module _ (some : 0 < mask / 2 ^ from) (small : mask < 2 ^ 32) where
     in_mask : has mask (from + least (mask / 2 ^ from)) ≡ true
@@ -49,10 +44,10 @@ module _ (mask from : ℕ) where
     pub next_small : {t : ℕ} → t ≡ least (mask / 2 ^ from) → from + t < 32
     next_small e = omega (arith, e, below_32 mask (from + least (mask / 2 ^ from)) small in_mask)
 
-    pub is-next : {t : ℕ} → t ≡ least (mask / 2 ^ from) → NextChoice mask from (from + t)
+    pub is-next : {t : ℕ} → t ≡ least (mask / 2 ^ from) → FirstFrom mask from (from + t)
     is-next {t} e = record {
       after = omega arith;
-      most = omega (arith, next_small e);
+      below = next_small e;
       skipped = λ d lo hi. back d lo ∙ below-least (mask / 2 ^ from) (d - from) (omega arith);
-      here = λ h. ap (λ (x : ℕ). has mask (from + x)) e ∙ in_mask;
+      here = ap (λ (x : ℕ). has mask (from + x)) e ∙ in_mask;
     }

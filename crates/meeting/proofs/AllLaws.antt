@@ -1,7 +1,7 @@
 -- A test of all numbers of a range holds exactly if each of them passes. Assumes nothing.
 use mathlib.Core.Path.{◌≡◌, refl, sym, ap, ap₂, ◌∙◌}
 use mathlib.Core.Bool.{Bool, true, false, ◌&&◌, false≢true}
-use Prim.Native.Nat.{ℕ, zero, suc, ◌+◌, ◌-◌, ◌<◌, ◌≤◌, max}
+use Prim.Native.Nat.{ℕ, zero, suc, ◌+◌, ◌-◌, ◌<◌, ◌≤◌}
 use native.Mathlib.Decide.{dec_lt}
 use native.Mathlib.Omega.{arith}
 use lib.Dec.{eqb}
@@ -54,12 +54,15 @@ module _ (f : ℕ → Bool) (from i : ℕ) where
   all-stops to h k e =
       same_test false (all_in f from (to - from)) (λ z. absurd (false≢true z)) (λ p. sym e ∙ all_tells f from (to - from) i p h (omega arith))
 
-  pub all_done : (to : ℕ) → to ≤ i → i ≤ max from to → all_in f from (i - from) ≡ true → true ≡ all_in f from (to - from)
-  all_done to h k p = sym (ap (all_in f from) (same (dec_lt to from)) ∙ p)
+  pub all_done : (to : ℕ) → to ≤ i → (from ≤ to → i ≤ to) → all_in f from (i - from) ≡ true → true ≡ all_in f from (to - from)
+  all_done to h k p = go (dec_lt to from)
     where
-      same : Dec (to < from) → to - from ≡ i - from
-      same (yes l) = omega arith
-      same (no l) = omega arith
+      go : Dec (to < from) → true ≡ all_in f from (to - from)
+      go (yes l) = sym (all_none f from (to - from) (omega arith))
+      go (no l) =
+          let m : i ≤ to = k (omega arith) in
+          let e : to - from ≡ i - from = omega arith in
+          sym (ap (all_in f from) e ∙ p)
 
 pub all_ext : (f g : ℕ → Bool) (from count : ℕ) → ((i : ℕ) → from ≤ i → i < from + count → f i ≡ g i) → all_in f from count ≡ all_in g from count
 unfolding all_in

@@ -1,2 +1,3 @@
 pub mod Met
 pub mod All
+pub mod Where

@@ -1,6 +1,7 @@
 -- The pairs of an image state and an end state that stand as marks in one row of words; and what adding a pair, and emptying some states,
 -- leaves.
-use Rattle.std.specs.Prelude.{◌≡◌, Bool, true, false, List, ℕ, ◌+◌, ◌*◌, ◌<◌, ◌≤◌, min, get_or}
+use Rattle.std.specs.Prelude.{◌≡◌, Bool, true, false, List, ℕ, ◌+◌, ◌*◌, ◌<◌, ◌≤◌, get_or, Option}
+use Rattle.std.specs.declared.option.Option.TheVariants.{Some, None}
 use Rattle.flags.specs.Flags.{flag_at}
 
 -- the mark of image state s and end state e, where each image state has `wide` words
@@ -15,12 +16,21 @@ pub record There (wide size s e : ℕ) : Type 0 where
   pub long : s * wide + wide ≤ size
   pub narrow : e < wide * 32
 
--- e is the first end state from `from` up to below `stop` that image state s meets, or `stop`
-pub record NextMet (wide : ℕ) (met : List ℕ) (s from stop e : ℕ) : Type 0 where
-  pub after : min from stop ≤ e
-  pub most : e ≤ stop
+-- e is the first end state from `from` up to below `stop` that image state s meets
+pub record FirstMet (wide : ℕ) (met : List ℕ) (s from stop e : ℕ) : Type 0 where
+  pub after : from ≤ e
+  pub before : e < stop
   pub skipped : (f : ℕ) → from ≤ f → f < e → is_met wide met s f ≡ false
-  pub here : e < stop → is_met wide met s e ≡ true
+  pub here : is_met wide met s e ≡ true
+
+-- image state s meets no end state from `from` up to below `stop`
+pub record NoneMet (wide : ℕ) (met : List ℕ) (s from stop : ℕ) : Type 0 where
+  pub all : (f : ℕ) → from ≤ f → f < stop → is_met wide met s f ≡ false
+
+-- the first end state from `from` up to below `stop` that image state s meets, or that it meets none
+abbrev pub NextMet : ℕ → List ℕ → ℕ → ℕ → ℕ → Option ℕ → Type 0
+NextMet wide met s from stop (Some e) = FirstMet wide met s from stop e
+NextMet wide met s from stop None = NoneMet wide met s from stop
 
 -- the pair is met now, and the other pairs are what they were
 pub record Meeting (wide : ℕ) (met : List ℕ) (s e : ℕ) (met' : List ℕ) : Type 0 where

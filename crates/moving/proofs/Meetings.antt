@@ -1,19 +1,17 @@
 -- A pair's records, one for each meeting of two rows: a turn of the loop takes the two rows with the least choice left, as `meet_left` does, and
 -- `meet_left` from all shared choices comes to the definition's order. Assumes nothing.
 use mathlib.Core.Path.{◌≡◌, refl, sym, ap, ap₂, ◌∙◌}
-use mathlib.Core.Bool.{Bool, true, false, not, ◌&&◌, false≢true}
+use mathlib.Core.Bool.{Bool, true, false}
+use mathlib.Core.Logic.{◌⊎◌, inl, inr}
 use mathlib.Core.List.{List, [], ◌∷◌}
-use Prim.Native.Nat.{ℕ, zero, suc, ◌-◌, ◌<◌}
-use native.Mathlib.Decide.{dec_lt}
+use Prim.Native.Nat.{ℕ, zero, suc, ◌-◌}
 use native.Mathlib.Omega.{arith}
 use lib.Dec.{eqb}
-use lib.Bits.{bit_and, bit_xor, and_zero_l, and_zero_r}
-use borrow.Author.Tests.{eqb-false, ne_eqb, not-true}
-use Rattle.amplitude.proofs.Equal.{both}
+use lib.Bits.{bit_and, bit_xor}
+use borrow.Author.Tests.{ne_eqb, eq-eqb}
 use Rattle.automata.specs.Choice.{Alt, alt, least, together}
 use Rattle.gates.specs.Roles.{Two}
 use Rattle.lookup.specs.Lookup.{union_of, pair_row}
-use Rattle.lookup.proofs.Turns.{union-none}
 use Rattle.stepwise.specs.Grow.{Level, grow_state}
 use Rattle.stepwise.specs.Meet.{pick, joined, mask_of_joined, meet_left}
 use Rattle.stepwise.proofs.MeetLaws.{meet_exact}
@@ -21,33 +19,9 @@ use Rattle.growing.specs.declared.Most.{Most}
 use Rattle.pairing.specs.declared.Meeting.{Meeting}
 use Rattle.lookup.specs.Alts.{alts_from}
 use Rattle.pairing.specs.Meetings.{alt_row, Met}
+use Rattle.pairing.proofs.Rows.{row-picked}
 use Rattle.moving.specs.Moves.{grow_alt, grow_alts, State}
 use Rattle.moving.proofs.Rows.{union_alts}
-
--- ---- the loop's test
-pub record Goes (left steps : ℕ) (ok : Bool) : Type 0 where
-  pub some : left ≡ 0 → ⊥
-  pub more : steps ≡ 0 → ⊥
-  pub within : ok ≡ true
-
-pub goes : (left steps : ℕ) (ok : Bool) → (not (eqb left 0) && not (eqb steps 0)) && ok ≡ true → Goes left steps ok
-goes left steps ok e =
-    let t = both (not (eqb left 0) && not (eqb steps 0)) ok e in
-    let u = both (not (eqb left 0)) (not (eqb steps 0)) t.0 in
-    record { some = eqb-false left 0 (not-true _ u.0); more = eqb-false steps 0 (not-true _ u.1); within = t.1 }
-
--- choices are shared only where both states have rows
-pub shared-rows : (masks : List ℕ) (qfrom qto pfrom pto : ℕ) {a b : ℕ} → a ≡ union_of masks qfrom (qto - qfrom) → b ≡ union_of masks pfrom (pto - pfrom)
-    → (bit_and a b ≡ 0 → ⊥) → (qfrom < qto) × (pfrom < pto)
-shared-rows masks qfrom qto pfrom pto {a} {b} ea eb some = (go (dec_lt qfrom qto), by (dec_lt pfrom pto))
-  where
-    go : Dec (qfrom < qto) → qfrom < qto
-    go (yes h) = h
-    go (no h) = absurd (some (ap (λ (u : ℕ). bit_and u b) (ea ∙ union-none masks qto qfrom (omega arith)) ∙ and_zero_l b))
-
-    by : Dec (pfrom < pto) → pfrom < pto
-    by (yes h) = h
-    by (no h) = absurd (some (ap (bit_and a) (eb ∙ union-none masks pto pfrom (omega arith)) ∙ and_zero_r a))
 
 module _ (f : ℕ × ℕ → ℕ × ℕ → Two) (rows masks : List ℕ) (qfrom qto pfrom pto : ℕ) where
   abbrev us : List (Alt (ℕ × ℕ))
@@ -83,7 +57,7 @@ module _ (f : ℕ × ℕ → ℕ × ℕ → Two) (rows masks : List ℕ) (qfrom 
       → meetings (suc n) left ≡ alt m.mask (f (pair_row rows m.i) (pair_row rows m.j)) ∷ meetings n (bit_xor left m.mask)
   meet_met n left m some met =
       meet-by n left false (ne_eqb left 0 some)
-      ∙ ap₂ (after n left) (sym (met.one.is rows)) (sym (met.other.is rows))
+      ∙ ap₂ (after n left) (row-picked rows masks met.one) (row-picked rows masks met.other)
       ∙ ap (λ (k : ℕ). alt k (f (pair_row rows m.i) (pair_row rows m.j)) ∷ meetings n (bit_xor left k)) (sym met.shared)
 
   module _ (most : Most) (s : ℕ) where
@@ -97,12 +71,9 @@ module _ (f : ℕ × ℕ → ℕ × ℕ → Two) (rows masks : List ℕ) (qfrom 
         ap (λ (ws : List (Alt Two)). grow_alts most s ws G) (meet_met n left m some met)
         ∙ ap (λ (i : ℕ). grow_alts most s (meetings i (bit_xor left m.mask)) (grow_alt most s (alt m.mask (f (pair_row rows m.i) (pair_row rows m.j))) G)) one
 
-    pub meetings_end : (steps left : ℕ) → not (eqb left 0) && not (eqb steps 0) ≡ false → (G : Level ℕ) → grow_alts most s (meetings steps left) G ≡ G
+    -- no choice is left, or no step
+    pub meetings_end : (steps left : ℕ) → (left ≡ 0) ⊎ (steps ≡ 0) → (G : Level ℕ) → grow_alts most s (meetings steps left) G ≡ G
     unfolding grow_state meet_left
     meetings_end zero left e G = refl
-    meetings_end (suc n) left e G = ap (λ (ws : List (Alt Two)). grow_alts most s ws G) (meet-by n left true (empty (eqb left 0) (eqb (suc n) 0) (ne_eqb (suc n) 0 (λ z. omega arith)) e))
-      where
-        empty : (t u : Bool) → u ≡ false → not t && not u ≡ false → t ≡ true
-        empty true u k h = refl
-        empty false true k h = absurd (false≢true (sym k))
-        empty false false k h = absurd (false≢true (sym h))
+    meetings_end (suc n) left (inl e) G = ap (λ (ws : List (Alt Two)). grow_alts most s ws G) (meet-by n left true (eq-eqb left 0 e))
+    meetings_end (suc n) left (inr e) G = absurd (omega arith)

@@ -8,6 +8,7 @@ use native.Mathlib.Omega.{arith}
 use lib.Bits.{bit_or}
 use lib.Dec.{eqb}
 use lib.ListN.{get_or}
+use Rattle.std.specs.Prelude.{Option}
 use Rattle.automata.specs.Choice.{Alt, alt, map_alt}
 use Rattle.stored.specs.Fields.{records_from}
 use Rattle.gates.specs.Roles.{Two}
@@ -17,7 +18,7 @@ use Rattle.roles.specs.declared.Kids.{Kids}
 use Rattle.roles.specs.Kept.{kids_of}
 use Rattle.stepwise.specs.Meet.{union}
 use Rattle.growing.specs.declared.Most.{Most}
-use Rattle.growing.specs.declared.Progress.{Progress}
+use Rattle.growing.specs.declared.NewLevel.{NewLevel}
 use Rattle.growing.specs.Growing.{Grew}
 use Rattle.lookup.specs.Alts.{alts_from}
 use Rattle.pairing.specs.Meetings.{alt_row}
@@ -50,7 +51,7 @@ unfolding grow_state
 single-end most s kids rows masks i to h G = ap (λ (us : List (Alt (ℕ × ℕ))). grow_alts most s (map_alt kids us) G) (alts_none rows masks i to h)
 
 -- a record whose children have the keys of a pair of keys
-pub kids-grown : {rows masks keys link heads : List ℕ} {r : Progress} {most : Most} (s m : ℕ) (G : Level ℕ) (p : Two) {k : Kids} → k ≡ kids_of p
-    → Grew rows masks keys link heads r most (grow eqb most.base s m k.left k.right G) → Grew rows masks keys link heads r most (grow_alt most s (alt m p) G)
-kids-grown {rows} {masks} {keys} {link} {heads} {r} {most} s m G p e g =
-    subst (λ (x : Kids). Grew rows masks keys link heads r most (grow eqb most.base s m x.left x.right G)) e g
+pub kids-grown : {v : NewLevel} {r : Option Unit} (most : Most) (s m : ℕ) (G : Level ℕ) (p : Two) {k : Kids} → k ≡ kids_of p
+    → Grew v r most (grow eqb most.base s m k.left k.right G) → Grew v r most (grow_alt most s (alt m p) G)
+kids-grown {v} {r} most s m G p e g =
+    subst (λ (x : Kids). Grew v r most (grow eqb most.base s m x.left x.right G)) e g

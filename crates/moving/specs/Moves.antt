@@ -1,5 +1,5 @@
 -- Document 01, "What each gate builds": the transitions of a table's states, and those of the state that a stored key names.
-use Rattle.std.specs.Prelude.{◌≡◌, List, ℕ, ◌+◌, ◌-◌, ◌*◌, ◌<◌, ◌≤◌, eqb, length, get_or}
+use Rattle.std.specs.Prelude.{List, ℕ, ◌+◌, ◌-◌, ◌*◌, ◌<◌, ◌≤◌, eqb, length, get_or}
 use Rattle.automata.specs.Choice.{Alt, alt, map_alt}
 use Rattle.automata.proofs.Choosing.{Disjoint}
 use Rattle.automata.proofs.Order.{Masked}

@@ -4,81 +4,53 @@
 #![tactic(auto)]
 
 use inputs::read_full;
-use refusals::Refusal;
-use setfile::{Bounds, SetAnswer};
+use setfile::Bounds;
 use std::rt::Files;
 use std::{env, fs, io};
 
-// The refusal of a set file; its number is 0 where it is taken.
-fn judged(file: &[u8]) -> Refusal {
+// What is said of a set file: the refusal's number and place.
+fn show(rt: &impl Print, file: &[u8]) -> io::Result<()> {
     let bounds = Bounds {
         states: 1024,
         inner: 2048,
         leaves: 1024,
     };
-    match setfile::read_set(file, bounds, 1) {
-        SetAnswer::Good(_) => Refusal {
-            number: 0,
-            source: 1,
-            place: 0,
-        },
-        SetAnswer::Bad(r) => r,
+    match setfile::read_set(file, bounds) {
+        Ok(_) => print!(rt; "0@0"),
+        Err(fault) => print!(rt; "{}@{}", fault.reason.number(), fault.place),
     }
 }
 
-fn show(rt: &impl Print, r: Refusal) -> io::Result<()> {
-    let number = r.number;
-    let place = r.place;
-    print!(rt; "{number}@{place}")
-}
-
-// What is said of the first n bytes, after a space if it is not the first of its line.
-fn show_front(rt: &impl Print, i: usize, bytes: [u8; 4096], n: usize) -> io::Result<()> {
+// The same, after a space if it is not the first of its line.
+fn show_next(rt: &impl Print, i: usize, file: &[u8]) -> io::Result<()> {
     if i != 0 {
         print!(rt; " ")?;
     }
-    if n <= 4096 {
-        show(rt, judged(&bytes[..n]))?;
-    }
-    Ok(())
+    show(rt, file)
 }
 
-// Every cut of the first n bytes.
-fn cuts(rt: &impl Print, bytes: [u8; 4096], n: usize) -> io::Result<()> {
-    for i in 0..n {
-        show_front(rt, i, bytes, i)?;
+// Every cut of the file.
+fn cuts(rt: &impl Print, file: &[u8]) -> io::Result<()> {
+    for i in 0..file.len() {
+        show_next(rt, i, &file[..i])?;
     }
-    show_front(rt, n, bytes, n)?;
+    show_next(rt, file.len(), file)?;
     println!(rt)
 }
 
-// A byte with one bit changed.
-fn with_bit(x: u8, bit: u8) -> u8 {
-    if bit < 8 {
-        return x ^ (1 << bit);
-    }
-    x
-}
-
-// The first n bytes with one bit of byte i changed.
-fn flipped(rt: &impl Print, bytes: [u8; 4096], n: usize, i: usize, bit: u8) -> io::Result<()> {
-    let mut changed = bytes;
-    if i < 4096 {
-        changed[i] = with_bit(bytes[i], bit);
-    }
-    show_front(rt, i, changed, n)
-}
-
-fn flips(rt: &impl Print, bytes: [u8; 4096], n: usize, bit: u8) -> io::Result<()> {
-    for i in 0..n {
-        flipped(rt, bytes, n, i, bit)?;
+// The file with this bit of a byte flipped, byte by byte; it is as it was afterwards.
+fn flips(rt: &impl Print, file: &mut [u8], bit: u8) -> io::Result<()> {
+    for i in 0..file.len() {
+        file[i] ^= bit;
+        show_next(rt, i, file)?;
+        file[i] ^= bit;
     }
     println!(rt)
 }
 
-fn all_flips(rt: &impl Print, bytes: [u8; 4096], n: usize) -> io::Result<()> {
-    for bit in 0..8 {
-        flips(rt, bytes, n, bit)?;
+fn all_flips(rt: &impl Print, file: &mut [u8]) -> io::Result<()> {
+    for bit in [1, 2, 4, 8, 16, 32, 64, 128] {
+        flips(rt, file, bit)?;
     }
     Ok(())
 }
@@ -92,8 +64,9 @@ fn run(rt: &(impl Files + Print + Eprint), name: &str) -> io::Result<()> {
     let mut bytes = [0u8; 4096];
     let count = read_full(&mut file, &mut bytes)?;
     println!(rt; "{name}")?;
-    cuts(rt, bytes, count)?;
-    all_flips(rt, bytes, count)
+    let file = &mut bytes[..count];
+    cuts(rt, file)?;
+    all_flips(rt, file)
 }
 
 fn main(rt: HostRuntime) -> io::Result<()> {

@@ -11,10 +11,9 @@ use lib.Dec.{eqb}
 use lib.ListN.{length, get_or, set, take, length-set}
 use lib.Seq.{length-take-le, get_or-take, get_or-set_same, get_or-set_other, take-suc-set}
 use borrow.Author.Tests.{eqb-true, eqb-false}
+use Rattle.std.specs.Prelude.{Option, Some}
 use Rattle.gates.specs.Numbering.{is_in}
 use Rattle.gates.proofs.NumberingLaws.{place_lt}
-use Rattle.names.specs.declared.Found.{Found}
-use Rattle.names.specs.declared.Found.TheVariants.{At}
 use Rattle.names.specs.Chain.{bucket_of, last_with, Chained}
 use Rattle.names.specs.Found.{found_in, Numbered}
 use Rattle.names.proofs.PlaceLaws.{out_absent, first-place, found_at}
@@ -22,7 +21,7 @@ use Rattle.names.proofs.ChainLaws.{bucket_below, last_here, last_before, last_se
 
 module _ {keys link heads : List ℕ} {count : ℕ} (ch : Chained keys link heads count) (key : ℕ) where
   -- the key was there
-  pub known : {r : Found} (p : ℕ) → r ≡ found_in key (take count keys) → r ≡ At p
+  pub known : {r : Option ℕ} (p : ℕ) → r ≡ found_in key (take count keys) → r ≡ Some p
       → Numbered keys link heads count key keys link heads (record { place = p; count = count })
   known p answer e =
       let f = found_at key (take count keys) answer p e in

@@ -7,9 +7,8 @@ use native.Mathlib.Omega.{arith}
 use lib.Dec.{eqb}
 use lib.ListN.{length, get_or}
 use borrow.Author.Tests.{eq-eqb, ne_eqb, eqb-false}
+use Rattle.std.specs.Prelude.{Option, Some, None}
 use Rattle.gates.specs.Numbering.{is_in, place}
-use Rattle.names.specs.declared.Found.{Found}
-use Rattle.names.specs.declared.Found.TheVariants.{At, Nothing}
 use Rattle.names.specs.Found.{found_in}
 
 module _ (key : ℕ) where
@@ -49,19 +48,19 @@ module _ (key : ℕ) where
       rw (ne_eqb x key (h 0 (omega arith))) (ap suc (first-place ks p (omega arith) e (λ j k. h (suc j) (omega arith))))
 
   -- what a search's answer tells
-  module _ {r : Found} (ks : List ℕ) (answer : r ≡ found_in key ks) where
-    pub found_at : (p : ℕ) → r ≡ At p → (is_in eqb key ks ≡ true) × (p ≡ place eqb key ks)
+  module _ {r : Option ℕ} (ks : List ℕ) (answer : r ≡ found_in key ks) where
+    pub found_at : (p : ℕ) → r ≡ Some p → (is_in eqb key ks ≡ true) × (p ≡ place eqb key ks)
     unfolding found_in
     found_at p e = at (is_in eqb key ks) (sym e ∙ answer)
       where
-        at : (b : Bool) → At p ≡ cond b (At (place eqb key ks)) Nothing → (b ≡ true) × (p ≡ place eqb key ks)
+        at : (b : Bool) → Some p ≡ cond b (Some (place eqb key ks)) None → (b ≡ true) × (p ≡ place eqb key ks)
         at true q = (refl, cc)
         at false q = let w : ◌≡◌ {A = ℕ} 0 1 = cc in absurd (omega arith)
 
-    pub found_none : r ≡ Nothing → is_in eqb key ks ≡ false
+    pub found_none : r ≡ None → is_in eqb key ks ≡ false
     unfolding found_in
     found_none e = at (is_in eqb key ks) (sym e ∙ answer)
       where
-        at : (b : Bool) → Nothing ≡ cond b (At (place eqb key ks)) Nothing → b ≡ false
+        at : (b : Bool) → None ≡ cond b (Some (place eqb key ks)) None → b ≡ false
         at true q = let w : ◌≡◌ {A = ℕ} 0 1 = cc in absurd (omega arith)
         at false q = refl

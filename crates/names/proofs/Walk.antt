@@ -7,7 +7,7 @@ use native.Mathlib.Omega.{arith}
 use native.Mathlib.Decide.{dec_lt}
 use lib.ListN.{length, get_or, take}
 use lib.Seq.{length-take-le, get_or-take}
-use Rattle.names.specs.declared.Found.TheVariants.{At, Nothing}
+use Rattle.std.specs.Prelude.{Some, None}
 use Rattle.names.specs.Chain.{bucket_of, last_with, Chained}
 use Rattle.names.specs.Found.{found_in}
 use Rattle.names.proofs.PlaceLaws.{absent_out, stands_in, first-place}
@@ -54,7 +54,7 @@ module _ {keys link heads : List ℕ} {count : ℕ} (ch : Chained keys link head
             let same : next - 1 ≡ j = omega arith in
             absurd (other (ap (λ (i : ℕ). get_or keys i 0) same ∙ q))
 
-    pub walk_hit : get_or keys (next - 1) 0 ≡ key → At (next - 1) ≡ found_in key (take count keys)
+    pub walk_hit : get_or keys (next - 1) 0 ≡ key → Some (next - 1) ≡ found_in key (take count keys)
     unfolding found_in
     walk_hit e =
         let here : next - 1 < count = omega (arith, w.inside) in
@@ -64,7 +64,7 @@ module _ {keys link heads : List ℕ} {count : ℕ} (ch : Chained keys link head
         λ j l q. ch.apart j (next - 1) l here (sym (get_or-take count keys j 0 (omega arith)) ∙ q ∙ sym e) in
         rw (stands_in key (take count keys) (next - 1) long is, first-place key (take count keys) (next - 1) long is first)
 
-  pub walk_end : {key next : ℕ} → Walking (length heads) keys count key next → next ≡ 0 → Nothing ≡ found_in key (take count keys)
+  pub walk_end : {key next : ℕ} → Walking (length heads) keys count key next → next ≡ 0 → None ≡ found_in key (take count keys)
   unfolding found_in
   walk_end {key} {next} w e = rw (absent_out key (take count keys) none)
     where

@@ -1,14 +1,12 @@
 -- Document 01, "states are numbered by first mention": what a search for a key tells, and what a mention of it leaves.
-use Rattle.std.specs.Prelude.{◌≡◌, cond, List, ℕ, ◌+◌, ◌<◌, ◌≤◌, eqb, length, take}
+use Rattle.std.specs.Prelude.{◌≡◌, cond, List, ℕ, ◌+◌, ◌<◌, ◌≤◌, eqb, length, take, Option, Some, None}
 use Rattle.gates.specs.Numbering.{is_in, mention, place}
-use Rattle.names.specs.declared.Found.{Found}
-use Rattle.names.specs.declared.Found.TheVariants.{At, Nothing}
 use Rattle.names.specs.declared.Mentioned.{Mentioned}
 use Rattle.names.specs.Chain.{Chained}
 
--- the place of a key among those mentioned, or that it is not among them
-unfoldable pub found_in : ℕ → List ℕ → Found
-found_in key ks = cond (is_in eqb key ks) (At (place eqb key ks)) Nothing
+-- the place of a key among those mentioned, or nothing where it is not among them
+unfoldable pub found_in : ℕ → List ℕ → Option ℕ
+found_in key ks = cond (is_in eqb key ks) (Some (place eqb key ks)) None
 
 -- what is so once a key is mentioned: `keys₀`, `link₀`, `heads₀` and `count` are before, the others after
 pub record Numbered (keys₀ link₀ heads₀ : List ℕ) (count key : ℕ) (keys link heads : List ℕ) (m : Mentioned) : Type 0 where

@@ -8,11 +8,13 @@ ghost use Rattle.std.specs.Prelude.{◌≡◌, ◌+◌, ◌<◌, length, get_or,
 ghost use Rattle.names.specs.Chain.{bucket_of, Chained};
 ghost use Rattle.names.specs.Found.{found_in, Numbered};
 
-// The place of a key, or that it was not mentioned.
-#[derive(Clone, Copy)]
-pub enum Found {
-    At(u16),
-    Nothing,
+// Room for keys and for the chains through them, and how many keys there are.
+#[derive(Drop)]
+pub struct Names<'a> {
+    pub keys: &'a mut [u64],
+    pub link: &'a mut [u16],
+    pub heads: &'a mut [u16],
+    pub count: u16,
 }
 
 // The place of a key that was mentioned, and how many keys there are now.
@@ -32,7 +34,7 @@ fn bucket_of(key: u64, size: usize) -> usize
 }
 
 // Whether a key is among the first `count`, and where. The walk along its bucket's chain goes to ever smaller places, so it ends.
-pub fn find(keys: &[u64], link: &[u16], heads: &[u16], count: u16, key: u64) -> Found
+pub fn find(keys: &[u64], link: &[u16], heads: &[u16], count: u16, key: u64) -> Option<u16>
     requires { Chained keys.now link.now heads.now count }
     ensures { result ≡ found_in key (take count keys.now) }
 {
@@ -42,11 +44,11 @@ pub fn find(keys: &[u64], link: &[u16], heads: &[u16], count: u16, key: u64) -> 
         let place = next - 1;
         let at = place as usize;
         if keys[at] == key {
-            return Found::At(place);
+            return Some(place);
         }
         next = link[at];
     }
-    Found::Nothing
+    None
 }
 
 // A key that is new takes the next place, and becomes the first of its bucket's chain.
@@ -75,8 +77,7 @@ pub fn mention(
     requires count_in_bounds { (count < length keys.old) × (count < length link.old) × (count < 65535) }
     ensures { Numbered keys.old link.old heads.old count key keys.new link.new heads.new result }
 {
-    let found = find(keys, link, heads, count, key);
-    let Found::At(place) = found else {
+    let Some(place) = find(keys, link, heads, count, key) else {
         add(keys, link, heads, count, key);
         return Mentioned {
             place: count,
@@ -90,9 +91,5 @@ pub fn mention(
 pub fn begin(heads: &mut [u16])
     ensures { heads.new ≡ replicate (length heads.old) 0 }
 {
-    let mut i = 0;
-    while i < heads.len() {
-        heads[i] = 0;
-        i += 1;
-    }
+    heads.fill(0);
 }

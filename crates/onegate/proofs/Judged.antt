@@ -9,7 +9,7 @@ use Rattle.automata.specs.Sets.{QSet}
 use Rattle.stored.specs.Refusal.{Judged, refused, refusal, no_source, need}
 use Rattle.stored.specs.Rules.{set_bounds}
 use Rattle.jobs.specs.OneGate.{output_size, new_set, with_file, one_gate_long, one_gate_judged, one_gate_reply, one_gate_output}
-use Rattle.replies.specs.declared.Reply.{Reply}
+use Rattle.replies.specs.declared.Fields.{Fields}
 use Rattle.replies.specs.Replied.{reply_from}
 use Rattle.gating.specs.Gated.{gated_by, new_set_by, length_reply}
 
@@ -21,7 +21,7 @@ new_set_lem s c = refl
 module _ (s c output : List ℕ) where
   -- what the job comes to, judged in any way
   module _ {j : Judged QSet} (is : j ≡ one_gate_judged s c output) where
-    pub the_reply : {r : Reply} → r ≡ reply_from (length_reply j) → r ≡ reply_from (one_gate_reply s c output)
+    pub the_reply : {r : Fields} → r ≡ reply_from (length_reply j) → r ≡ reply_from (one_gate_reply s c output)
     unfolding one_gate_reply
     the_reply h = h ∙ ap (λ (i : Judged QSet). reply_from (length_reply i)) is
 

@@ -15,13 +15,16 @@ use Rattle.automata.specs.Choice.{least}
 use Rattle.automata.specs.Sets.{Rec, rec}
 use Rattle.automata.proofs.Lists.{Each, each_map}
 use Rattle.stored.specs.Fields.{records_from}
+use native.Mathlib.Nat.{suc-mul}
 use Rattle.stored.specs.Rules.{apart, first_bad, passes, fits_after, first_clash}
 use Rattle.stored.proofs.ScanLaws.{each-passes}
 use Rattle.records.specs.declared.Key.{Key}
 use Rattle.records.specs.Read.{bare, key_read}
 use Rattle.records.proofs.Step.{records-step, records-end}
 use Rattle.order.specs.declared.Run.{Run}
-use Rattle.order.specs.Pass.{fits_next, used_after, run_after}
+use Rattle.std.specs.declared.option.Option.TheVariants.{Some, None}
+use Rattle.scans.specs.Scan.{stopped}
+use Rattle.order.specs.Pass.{fits_next, run_after}
 
 -- ---- masks: a union shares a choice exactly if one of its two does
 union_shares : (a b x : ℕ) → (bit_and a x ≤ bit_and (bit_or a b) x) × (bit_and (bit_or a b) x ≤ bit_and a x + bit_and b x)
@@ -119,7 +122,7 @@ module _ {X : Type 0} where
         up (inr e) h = omega arith
 
     uses_on : (k : ℕ) (y : X) → passes (λ p. apart p (rec q k y)) (rec q m x ∷ ps) ≡ eqb (bit_and after.used k) 0
-    unfolding after run_after used_after
+    unfolding after run_after
     uses_on k y = passes_cons (λ p. apart p (rec q k y)) (rec q m x) ps ∙ rw (eq-eqb q q refl) (go rises)
       where
         go : (r.state < q) ⊎ (r.state ≡ q)
@@ -182,20 +185,48 @@ module _ {X : Type 0} where
       keys i zero = refl
       keys i (suc left) = ap₂ (λ (k : Key) (ks : List Key). k ∷ ks) (sym (same i)) (keys (i + size) left)
 
--- ---- one turn of the pass over a file's records: the record at a place has the state and the mask of `key`
-module _ (s : List ℕ) (at size left : ℕ) (run : Run) where
-  module _ (key : Key) (more : left ≡ 0 → ⊥) (is : key ≡ key_read s at) where
-    abbrev rest : List Key
-    rest = records_from (key_read s) (at + size) size (left - 1)
+-- ---- the pass over a file's records, from record i on
+module _ (s : List ℕ) (at size count : ℕ) where
+  abbrev pub unfit_from : ℕ → Run → ℕ
+  unfit_from i run = first_unfit run (records_from (key_read s) (at + i * size) size (count - i))
 
-    pub unfit_turn : {b : Bool} → fits_next run key ≡ b
-        → first_unfit run (records_from (key_read s) at size left) ≡ cond b (suc (first_unfit (run_after run key) (records_from (key_read s) (at + size) size (left - 1)))) 0
-    unfit_turn e =
-        ap (first_unfit run) (records-step (key_read s) at size left more ∙ ap (λ (k : Key). k ∷ rest) (sym is))
-        ∙ ap (λ (b : Bool). cond b (suc (first_unfit (run_after run key) rest)) 0) e
+  -- one turn
+  turn : (i : ℕ) (run : Run) (key : Key) → i < count → key ≡ key_read s (at + i * size) → {b : Bool} → fits_next run key ≡ b
+      → unfit_from i run ≡ cond b (suc (unfit_from (i + 1) (run_after run key))) 0
+  turn i run key l is {b} e =
+      let on : records_from (key_read s) (at + i * size + size) size (count - i - 1) ≡ records_from (key_read s) (at + (i + 1) * size) size (count - (i + 1))
+      = ap₂ (λ (p n : ℕ). records_from (key_read s) p size n) (omega (arith, suc-mul i size)) (omega arith) in
+      ap (first_unfit run) (records-step (key_read s) (at + i * size) size (count - i) (λ z. omega arith) ∙ ap₂ (λ (k : Key) (ks : List Key). k ∷ ks) (sym is) on)
+      ∙ ap (λ (c : Bool). cond c (suc (unfit_from (i + 1) (run_after run key))) 0) e
 
-  pub unfit_end : left ≡ 0 → first_unfit run (records_from (key_read s) at size left) ≡ 0
-  unfit_end e = ap (first_unfit run) (records-end (key_read s) at size left e)
+  pub fits_turn : (i : ℕ) (run : Run) (key : Key) (next : Run) → i < count → key ≡ key_read s (at + i * size) → fits_next run key ≡ true → next ≡ run_after run key
+      → i + unfit_from i run ≡ unfit_from 0 start → i + 1 + unfit_from (i + 1) next ≡ unfit_from 0 start
+  fits_turn i run key next l is e n w = let t = turn i run key l is e in let m = ap (unfit_from (i + 1)) n in omega arith
+
+  clashes : List (Rec (Unit {0}))
+  clashes = records_from (λ (i : ℕ). bare (key_read s i)) at size count
+
+  whole : unfit_from 0 start ≡ first_clash [] clashes
+  unfolding clashes
+  whole = ap₂ (λ (p n : ℕ). first_unfit start (records_from (key_read s) p size n)) (omega arith) (omega arith) ∙ pass_clash (λ i. bare (key_read s i)) (key_read s) (λ i. refl) at size count
+
+  -- where the pass stops
+  pub clash_here : (i : ℕ) (run : Run) (key : Key) → i < count → key ≡ key_read s (at + i * size) → fits_next run key ≡ false
+      → i + unfit_from i run ≡ unfit_from 0 start → Some i ≡ stopped count (first_clash [] (records_from (λ (i : ℕ). bare (key_read s i)) at size count))
+  unfolding clashes
+  clash_here i run key l is e w =
+      let t = turn i run key l is e in
+      let stop : first_clash [] clashes ≡ i = sym whole ∙ omega arith in
+      rw (stop, ne_eqb i count (λ z. omega arith)) refl
+
+  -- or that it does not
+  pub no_clash : (run : Run) → count + unfit_from count run ≡ unfit_from 0 start
+      → None ≡ stopped count (first_clash [] (records_from (λ (i : ℕ). bare (key_read s i)) at size count))
+  unfolding clashes
+  no_clash run w =
+      let end : unfit_from count run ≡ 0 = ap (first_unfit run) (records-end (key_read s) (at + count * size) size (count - count) (omega arith)) in
+      let all : first_clash [] clashes ≡ count = sym whole ∙ omega arith in
+      rw (all, eq-eqb count count refl) refl
 
 -- ---- the first clash of a kind's records is that of their states and masks
 pub clash_is : {X : Type 0} (s : List ℕ) (read : ℕ → Rec X) → ((i : ℕ) → key_of (read i) ≡ key_read s i)

@@ -12,7 +12,7 @@ fits_next r t =
     || (eqb r.state t.state && (leb r.next (least t.mask) && eqb (bit_and r.used t.mask) 0))
 
 -- the choices that a record's state has used: those of the last state, where it is the same, and the record's own
-unfoldable pub used_after : ℕ → ℕ → ℕ → ℕ → ℕ
+abbrev pub used_after : ℕ → ℕ → ℕ → ℕ → ℕ
 used_after state used own mask = cond (eqb state own) (bit_or used mask) mask
 
 -- what a record leaves: its state, the least choice that may come next, the choices that its state has used

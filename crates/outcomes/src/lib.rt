@@ -2,24 +2,90 @@
 // that is found from its block passes without a search, and a block is remembered only where each of its words was found from it.
 #![tactic(auto)]
 
-ghost use Rattle.std.specs.Prelude.{Bool, true, ◌≡◌, List, ◌∷◌, ℕ, suc, ◌+◌, ◌-◌, ◌≤◌, ◌<◌, length};
+ghost use Rattle.std.specs.Prelude.{Bool, true, ◌≡◌, List, ◌∷◌, ℕ, suc, ◌+◌, ◌-◌, ◌*◌, ◌≤◌, ◌<◌, length, get_or};
+ghost use Rattle.automata.specs.Choice.{choices_most, has};
 ghost use Rattle.automata.specs.Members.{Member};
-ghost use Rattle.remembering.specs.Memory.{Same, levels_most, Saying, Memory};
-ghost use Rattle.remembering.specs.Fits.{Fits};
+ghost use Rattle.fitting.specs.Fit.{LeafStageOn};
+ghost use Rattle.relating.specs.Found.{found_on};
+ghost use Rattle.reaching.specs.Reached.{all_reached, has_choice_on};
+ghost use Rattle.remembering.specs.Memory.{levels_most, Saying};
+ghost use Rattle.remembering.specs.Slots.{SameBlock, FitsIn, MemoryIn, SameSizes};
 ghost use Rattle.walking.specs.declared.Kind.TheVariants.{Going};
+ghost use Rattle.walking.specs.On.{passes_on, trees_on};
 ghost use Rattle.walking.specs.Tallied.{tallied};
-ghost use Rattle.walking.specs.Walk.{passes_in, trees_by, members_by};
-ghost use Rattle.blocks.specs.Good.{all_of, Clean};
-ghost use Rattle.blocks.specs.Block.{row_cells, Ending};
+ghost use Rattle.walking.specs.Walk.{members_by};
+ghost use Rattle.blocks.specs.Good.{all_of};
+ghost use Rattle.outcomes.specs.On.{RowsThere, ends_on, BlockOf, OnlyMarks, EndingOn, CleanOn};
 
 use meeting::Level;
-use reaching::ends_all;
+use reaching::{ends_all, reached_choices};
 use relating::leads;
-use remembering::keep;
-use walking::{Kind, Tally, tick};
+use remembering::{Block, Slots};
+use walking::{Kind, Tally, Task, stopped, tick};
 
 // Bytes of a remembered row: one for each state of the image.
 pub const CELLS: u16 = 1024;
+
+// Where a walk stands: it has made `at` choices, so many qubits are left from the next level on, and p relations of this one stand in the stack.
+#[derive(Clone, Copy)]
+pub struct Place {
+    pub at: u8,
+    pub left: u8,
+    pub level: Level,
+    pub p: u16,
+}
+
+// The rows that a walk writes: marks of pairs and planes for the search of one member, the planes of its blocks, and the states reached.
+#[derive(Drop)]
+pub struct Walk<'a> {
+    pub may: &'a mut [u32],
+    pub met: &'a mut [u32],
+    pub stack: &'a mut [u32],
+    pub reached: &'a mut [u8],
+}
+
+impl Walk<'_> {
+    // The block where the walk stands.
+    pub fn block(&self, task: &Task, place: Place) -> Block<'_>
+        ensures { BlockOf task.now self.now place result }
+    {
+        Block {
+            from: place.level.from,
+            to: place.level.to,
+            p: place.p,
+            wide: task.sides.wide,
+            plane: task.plane,
+            room: task.room,
+            cells: CELLS,
+            row: self.reached,
+            stack: self.stack,
+        }
+    }
+
+    // The choices that all states reached have.
+    pub fn choices(&self, task: &Task, level: Level) -> u32
+        requires { RowsThere task.now level (length self.now.reached.now) }
+        ensures { (d : ℕ) → d < choices_most → has result d ≡ all_reached (has_choice_on task.now.sides.image d) self.now.reached.now level.from level.to }
+    {
+        reached_choices(&task.sides.image, self.reached, level.from, level.to)
+    }
+
+    // All states reached have a leaf with choice c.
+    fn ends(&self, task: &Task, level: Level, c: u8) -> bool
+        requires { RowsThere task.now level (length self.now.reached.now) × (c < choices_most) }
+        ensures { result ≡ ends_on task.now level self.now.reached.now c }
+    {
+        ends_all(&task.sides.image, self.reached, c, level.from, level.to)
+    }
+
+    // A word whose last choice is c is found from the block.
+    fn leads(&self, task: &Task, place: Place, c: u8) -> bool
+        requires { LeafStageOn task.now.sides task.now.plane place.level × (c < choices_most) × (place.p * task.now.plane ≤ length self.now.stack.now) }
+        ensures { (word : List ℕ) (at : ℕ) → get_or word at 0 ≡ c → result ≡ found_on task.now.sides word at 0 task.now.plane self.now.stack.now place.p place.level }
+    {
+        leads(&task.sides, self.stack, task.plane, place.p, c, place.level)
+    }
+}
 
 // How far the check is after some words of a block, and whether each of them was found from the block.
 #[derive(Clone, Copy)]
@@ -32,104 +98,65 @@ pub struct Outcome {
 fn settled(r: Outcome) -> bool
     ensures { result ≡ true → (r.clean ≡ true) × (r.tally.kind ≡ Going) }
 {
-    let tally = r.tally;
-    let k = tally.kind;
-    match k {
-        Kind::Going => r.clean,
-        Kind::Failed => false,
-        Kind::Undecided => false,
-    }
+    r.clean && !stopped(r.tally)
 }
 
 // m members in a row that all pass: the allowance b is tested as if they were examined one by one.
 pub fn skip(b: u32, t: Tally, m: u32) -> Tally
     ensures { (passes : Member → Bool) (ms : List Member) → length ms ≡ m → all_of passes ms ≡ true → result ≡ tallied passes b t ms }
 {
-    let k = t.kind;
-    let count = t.count;
-    let word = t.word;
-    match k {
-        Kind::Going => {
-            if m == 0 {
-                return t;
-            }
-            if count >= b {
-                return Tally {
-                    kind: Kind::Undecided,
-                    count,
-                    root: t.root,
-                    word,
-                };
-            }
-            if b - count < m {
-                return Tally {
-                    kind: Kind::Undecided,
-                    count: b,
-                    root: t.root,
-                    word,
-                };
-            }
-            Tally {
-                kind: Kind::Going,
-                count: count + m,
-                root: t.root,
-                word,
-            }
-        }
-        Kind::Failed => t,
-        Kind::Undecided => t,
+    if stopped(t) {
+        return t;
+    }
+    if m == 0 {
+        return t;
+    }
+    if t.count >= b {
+        return Tally {
+            kind: Kind::Undecided,
+            ..t
+        };
+    }
+    if b - t.count < m {
+        return Tally {
+            kind: Kind::Undecided,
+            count: b,
+            ..t
+        };
+    }
+    Tally {
+        count: t.count + m,
+        ..t
     }
 }
 
 // The word's last choice is c: it is a member's word if all states reached have a leaf with it. A member that is found from the block passes; the
 // search decides on another.
 pub fn finish(
-    n: u8,
-    rows: &[u16],
-    masks: &[u32],
-    coefs: &[i32],
-    counts: &[u16],
-    first: &[u16],
-    endrows: &[u16],
-    endmasks: &[u32],
-    endcoefs: &[i32],
-    endcounts: &[u16],
-    endfirst: &[u16],
-    may: &mut [u32],
-    met: &mut [u32],
-    stack: &[u32],
-    reached: &[u8],
-    wide: u16,
-    plane: u16,
-    room: u16,
-    p: u16,
-    b: u32,
+    task: &Task,
+    walk: &mut Walk,
+    place: Place,
     root: u16,
-    level: Level,
     c: u8,
     word: [u8; 21],
     t: Tally,
 ) -> Outcome
-    requires { Ending rows.now masks.now coefs.now counts.now first.now endrows.now endmasks.now endcoefs.now endcounts.now endfirst.now wide plane room n p level root word stack.now (length may.old) (length met.old) (length reached.now) c }
-    ensures { (result.tally ≡ tallied (passes_in rows.now masks.now coefs.now first.now endrows.now endmasks.now endcoefs.now endcounts.now endfirst.now n) b t (members_by root word (n + 1) 0 (λ (v : List ℕ). trees_by rows.now masks.now coefs.now first.now n 0 reached.now level.from level.to (c ∷ v)))) × (result.clean ≡ true → Clean rows.now masks.now coefs.now first.now endrows.now endmasks.now endcoefs.now endfirst.now wide plane n 0 p level reached.now stack.now c (c + 1)) }
+    requires { EndingOn task.now walk.old place root word c }
+    ensures tally { result.tally ≡ tallied (passes_on task.now) task.now.allowance t (members_by root word (task.now.n + 1) 0 (λ (v : List ℕ). trees_on task.now task.now.n 0 walk.old.reached.now place.level.from place.level.to (c ∷ v))) }
+    ensures clean { result.clean ≡ true → CleanOn task.now task.now.n 0 place walk.old.reached.now walk.old.stack.now c (c + 1) }
+    ensures others { OnlyMarks walk.old walk.new }
 {
-    if !ends_all(masks, first, reached, c, level.from, level.to) {
+    if !walk.ends(task, place.level, c) {
         return Outcome {
             tally: t,
             clean: true,
         };
     }
-    if leads(
-        rows, masks, coefs, first, endrows, endmasks, endcoefs, endfirst, stack, plane, p, wide, c,
-        level,
-    ) {
-        let tally = skip(b, t, 1);
+    if walk.leads(task, place, c) {
+        let tally = skip(task.allowance, t, 1);
         return Outcome { tally, clean: true };
     }
-    let tally = tick(
-        n, rows, masks, coefs, counts, first, endrows, endmasks, endcoefs, endcounts, endfirst,
-        may, met, wide, plane, room, b, root, word, t,
-    );
+    let tally = tick(task, walk.may, walk.met, root, word, t);
     Outcome {
         tally,
         clean: false,
@@ -137,37 +164,17 @@ pub fn finish(
 }
 
 // A block that was visited is remembered, if each of its words was found from it, with the members that were counted since `before`.
-pub fn remember(
-    at: u8,
-    p: u16,
-    reached: &[u8],
-    stack: &[u32],
-    wide: u16,
-    plane: u16,
-    room: u16,
-    slots: u16,
-    level: Level,
-    before: u32,
-    r: Outcome,
-    kept: &mut [u32],
-    hints: &mut [u8],
-    seen: &mut [u32],
-    sizes: &mut [u8],
-    turn: &mut [u8],
-)
-    requires { Fits at level.from level.to p wide plane room row_cells slots reached.now stack.now kept.old hints.old seen.old sizes.old × (levels_most ≤ length turn.old) × (r.tally.kind ≡ Going → before ≤ r.tally.count) }
-    ensures { (low : ℕ → ℕ) (good : Saying) → ((i : ℕ) → i < levels_most → low i ≤ low (suc i)) → level.from ≡ low at → level.to ≡ low (suc at)
-        → Memory wide plane room row_cells slots low good seen.old sizes.old hints.old kept.old
-        → (r.clean ≡ true → r.tally.kind ≡ Going → (row' stack' : List ℕ) → Same wide plane level.from level.to p reached.now stack.now row' stack' → good at p row' stack' (r.tally.count - before) ≡ true)
-        → Memory wide plane room row_cells slots low good seen.new sizes.new hints.new kept.new }
+pub fn remember(slots: &mut Slots, at: u8, block: &Block, before: u32, r: Outcome)
+    requires { FitsIn slots.old block.now at × (levels_most ≤ length slots.old.turn.now) × (r.tally.kind ≡ Going → before ≤ r.tally.count) }
+    ensures sizes { SameSizes slots.old slots.new }
+    ensures memory { (low : ℕ → ℕ) (good : Saying) → ((i : ℕ) → i < levels_most → low i ≤ low (suc i)) → block.now.from ≡ low at → block.now.to ≡ low (suc at)
+        → MemoryIn slots.old block.now low good
+        → (r.clean ≡ true → r.tally.kind ≡ Going → (row' stack' : List ℕ) → SameBlock block.now row' stack' → good at block.now.p row' stack' (r.tally.count - before) ≡ true)
+        → MemoryIn slots.new block.now low good }
 {
     if !settled(r) {
         return;
     }
-    let tally = r.tally;
-    let m = tally.count - before;
-    keep(
-        at, level.from, level.to, p, reached, stack, wide, plane, room, CELLS, slots, m, kept,
-        hints, seen, sizes, turn,
-    );
+    let m = r.tally.count - before;
+    slots.keep(at, block, m);
 }

@@ -1,10 +1,10 @@
 -- Document 01, "It writes the new set at the front .. bytes after it .. stay": what packing leaves in an output, and what it asks of a table.
 use Rattle.std.specs.Prelude.{List, ◌∷◌, ◌++◌, ℕ, ◌+◌, ◌*◌, ◌≤◌, ◌<◌, ℤ, pos, length, get_or}
-use Rattle.amplitude.specs.Amp.{Amp, amp}
 use Rattle.stored.specs.Fields.{bytes16, bytes32, unsigned32}
 use Rattle.stored.specs.Form.{Form}
 use Rattle.tables.specs.Table.{row_width, leaf_width}
 pub use Rattle.putting.specs.Front.{at_front}
+pub use Rattle.tables.specs.Table.{amp_from}
 
 -- HD: the mark, "version 1, n, k, zero (one byte each), states, inner, leaves (two bytes each)"
 abbrev pub head_bytes : ℕ → ℕ → ℕ → ℕ → ℕ → List ℕ
@@ -13,10 +13,6 @@ head_bytes n k states inner leaves = 72 ∷ 68 ∷ 1 ∷ n ∷ k ∷ 0 ∷ (byte
 -- the coefficient at a place
 abbrev pub coef_bytes : List ℤ → ℕ → List ℕ
 coef_bytes coefs at = bytes32 (unsigned32 (get_or coefs at (pos 0)))
-
--- the four numbers from a place of the coefficients on
-abbrev pub amp_from : List ℤ → ℕ → Amp
-amp_from coefs at = amp (get_or coefs at (pos 0)) (get_or coefs (at + 1) (pos 0)) (get_or coefs (at + 2) (pos 0)) (get_or coefs (at + 3) (pos 0))
 
 -- what HD says of a table
 abbrev pub table_form : ℕ → ℕ → ℕ → ℕ → ℕ → Form

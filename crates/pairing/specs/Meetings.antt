@@ -2,8 +2,8 @@
 use Rattle.std.specs.Prelude.{◌≡◌, List, ℕ, ◌-◌, ◌<◌, ◌≤◌, get_or}
 use Rattle.std.specs.Int.Bits.{bit_and}
 use Rattle.automata.specs.Choice.{Alt, alt, least}
+use Rattle.stored.specs.Fields.{records_from}
 use Rattle.lookup.specs.Lookup.{pair_row}
-use Rattle.lookup.specs.Alts.{alts_from}
 use Rattle.stepwise.specs.Meet.{pick}
 use Rattle.pairing.specs.declared.Meeting.{Meeting}
 
@@ -11,11 +11,18 @@ use Rattle.pairing.specs.declared.Meeting.{Meeting}
 abbrev pub alt_row : List ℕ → List ℕ → ℕ → Alt (ℕ × ℕ)
 alt_row rows masks i = alt (get_or masks i 0) (pair_row rows i)
 
--- the row from `from` up to below `to` that is picked for a choice
-pub record Picked (masks : List ℕ) (from to c r : ℕ) : Type 0 where
-  pub is : (rows : List ℕ) → alt_row rows masks r ≡ pick (alt_row rows masks from) c (alts_from rows masks from (to - from))
-  pub after : from ≤ r
-  pub before : r < to
+-- row i as an alternative that is taken by its number, and `count` rows from row `from` on
+abbrev pub row_alt : List ℕ → ℕ → Alt ℕ
+row_alt masks i = alt (get_or masks i 0) i
+
+abbrev pub row_alts : List ℕ → ℕ → ℕ → List (Alt ℕ)
+row_alts masks from count = records_from (row_alt masks) from 1 count
+
+-- row i is the one picked at a choice among the rows from `from` up to below `to`: the first that has it, or row `from`
+pub record Picked (masks : List ℕ) (from to c i : ℕ) : Type 0 where
+  pub after : from ≤ i
+  pub before : i < to
+  pub is : pick (row_alt masks from) c (row_alts masks from (to - from)) ≡ row_alt masks i
 
 -- the two rows, one of each state, that are picked for the least of the choices left, and what their masks share
 pub record Met (masks : List ℕ) (qfrom qto pfrom pto left : ℕ) (m : Meeting) : Type 0 where

@@ -10,21 +10,17 @@ ghost use Rattle.lookup.specs.Lookup.{pair_row};
 ghost use Rattle.roles.specs.Kept.{role_is, side_is, kids_of};
 ghost use Rattle.pairing.specs.Meetings.{Picked, Met};
 
-use lookup::{Found, find_row};
+use lookup::find_row;
 use masks::least_choice;
 use roles::{Kids, Role, Side, pair_kids};
 use tables::ROW_WIDTH;
 
-// The first row from `from` up to below `to` whose mask has the choice; `from` where there is none.
+// The first row from `from` up to below `to` whose mask has the choice; where none has it the definition picks row `from`, and so does this.
 fn pick_row(masks: &[u32], from: u16, to: u16, choice: u8) -> u16
     requires { (from < to) × (to ≤ length masks.now) × (choice < choices_most) }
     ensures { Picked masks.now from to choice result }
 {
-    let found = find_row(masks, from, to, choice);
-    let Found::Row(i) = found else {
-        return from;
-    };
-    i
+    find_row(masks, from, to, choice).unwrap_or(from)
 }
 
 // Two rows that meet, one of each state of a pair, and the choices that both have.

@@ -14,31 +14,7 @@ use Rattle.stored.proofs.Reading.{need-good, good-same}
 use Rattle.gates.specs.Gate.{Gate}
 use Rattle.gates.specs.Circuit.{judge_circuit}
 use Rattle.jobs.specs.Check.{Ready, ready}
-use Rattle.refusals.specs.declared.Refusal.{Refusal}
-use Rattle.refusals.specs.Refused.{refused_by}
-use Rattle.standing.specs.Standing.{form_of}
-use Rattle.preparing.specs.declared.Prepared.TheVariants as code
-use Rattle.preparing.specs.declared.Files.{Files}
-use Rattle.preparing.specs.Prepared.{same_n, end_judged, end_ready, rest_judged, files_judged, prepared_of}
-use Rattle.preparing.proofs.Preparations.{of_code}
-
--- ---- the code's answer
-pub record Readied (j : Judged Ready) (f : Files) : Type 0 where
-  pub files : Ready
-  pub is : j ≡ good files
-  pub form : f.form ≡ form_of files.start
-  pub count : f.count ≡ length files.gates
-  pub endform : f.endform ≡ form_of files.end
-
-pub readied : (j : Judged Ready) (f : Files) → code.Ready f ≡ prepared_of j → Readied j f
-readied (refused r) f e = let z : ◌≡◌ {A = ℕ} 0 1 = cc in absurd (omega arith)
-readied (good J) f e =
-    let same : f ≡ record { form = form_of J.start; count = length J.gates; endform = form_of J.end } = cc in
-    record { files = J; is = refl; form = ap (λ (x : Files). x.form) same; count = ap (λ (x : Files). x.count) same; endform = ap (λ (x : Files). x.endform) same }
-
-pub turned_away : (j : Judged Ready) (r : Refusal) → code.Refused r ≡ prepared_of j → j ≡ refused (of_code r)
-turned_away (refused q) r e = let same : refused_by q ≡ r = cc in ap (λ (x : Refusal). refused (of_code x)) same
-turned_away (good J) r e = let z : ◌≡◌ {A = ℕ} 0 1 = cc in absurd (omega arith)
+use Rattle.preparing.specs.Prepared.{same_n, end_judged, end_ready, rest_judged, files_judged}
 
 -- ---- the files
 pub record Whole (c : List ℕ) (J : Ready) : Type 0 where

@@ -1,19 +1,14 @@
 -- Document 01, "Order: .. start set 1 to 10, circuit 11 and 12, end set 1 to 10, 13", over any bounds: all files of a check judged, before any gate.
 use Rattle.std.specs.Prelude.{List, ℕ, eqb, length}
 use Rattle.automata.specs.Sets.{QSet}
-use Rattle.stored.specs.Refusal.{Judged, refused, good, need, on_good, refusal, no_source, start_source, end_source}
+use Rattle.stored.specs.Refusal.{Judged, good, need, on_good, refusal, no_source, start_source, end_source}
 use Rattle.stored.specs.Rules.{Bounds}
 use Rattle.stored.specs.Judge.{judge_set}
 use Rattle.gates.specs.Gate.{Gate}
 use Rattle.gates.specs.Circuit.{judge_circuit}
 use Rattle.jobs.specs.Check.{Ready, ready}
-use Rattle.refusals.specs.Refused.{refused_by}
-use Rattle.setfile.specs.declared.Form.{Form}
-use Rattle.setfile.specs.declared.SetAnswer.{SetAnswer}
-use Rattle.setfile.specs.declared.SetAnswer.TheVariants.{Good, Bad}
 use Rattle.standing.specs.Standing.{form_of}
-use Rattle.preparing.specs.declared.Prepared.{Prepared}
-use Rattle.preparing.specs.declared.Prepared.TheVariants as code
+use Rattle.preparing.specs.declared.Files.{Files}
 
 -- 13: "the end set has another n"
 abbrev pub same_n : QSet → ℕ → Judged QSet
@@ -34,12 +29,6 @@ rest_judged b Q c e = on_good (judge_circuit Q.n c) (λ gs. end_ready b Q gs e)
 unfoldable pub files_judged : Bounds → Bounds → List ℕ → List ℕ → List ℕ → Judged Ready
 files_judged b eb s c e = on_good (judge_set b start_source s) (λ Q. rest_judged eb Q c e)
 
--- a judged set as the code answers it: its numbers, or the refusal
-abbrev pub form_answer : Judged QSet → SetAnswer
-form_answer (refused r) = Bad (refused_by r)
-form_answer (good Q) = Good (form_of Q)
-
--- judged files as the code answers them: both sets' numbers and how many gates there are, or the refusal
-abbrev pub prepared_of : Judged Ready → Prepared
-prepared_of (refused r) = code.Refused (refused_by r)
-prepared_of (good J) = code.Ready (record { form = form_of J.start; count = length J.gates; endform = form_of J.end })
+-- what the code says of files that are all good
+abbrev pub files_of : Ready → Files
+files_of J = record { form = form_of J.start; count = length J.gates; endform = form_of J.end }

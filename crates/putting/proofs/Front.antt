@@ -9,12 +9,6 @@ use lib.Seq.{sets, sets-eq, drop-drop, drop-length, take_all, take_at, drop_at}
 use borrow.Rule.Slice.PartMut.{put_mid, Post-is}
 use Rattle.putting.specs.Front.{at_front}
 
--- stores one after the other, from cell 0 on
-pub stored : (bytes out : List ℕ) → length bytes ≤ length out → sets out 0 bytes ≡ at_front bytes out
-stored bytes out h =
-    let e : 0 + length bytes ≡ length bytes = omega arith in
-    sets-eq bytes out 0 (omega arith) ∙ ap (λ (n : ℕ). bytes ++ drop n out) e
-
 pub front_long : (bytes out : List ℕ) → length bytes ≤ length out → length (at_front bytes out) ≡ length out
 front_long bytes out h = length-append bytes (drop (length bytes) out) ∙ rw (length-drop (length bytes) out) (omega arith)
 

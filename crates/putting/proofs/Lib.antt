@@ -1,2 +1,1 @@
-pub mod Twos
 pub mod Front

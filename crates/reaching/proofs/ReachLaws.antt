@@ -1,18 +1,20 @@
 -- A test of all reached states of a level: what it says of each, that only the level's own cells matter, and what one state more and none at
--- all make of it. Cells written one by one. Assumes nothing.
+-- all make of it. Assumes nothing.
 use mathlib.Core.Path.{◌≡◌, refl, sym, ap, ap₂, ◌∙◌}
 use mathlib.Core.Bool.{Bool, true, false, cond, ◌&&◌, false≢true}
 use mathlib.Core.List.{List}
 use mathlib.Core.Option.{Option, none, some}
-use Prim.Native.Nat.{ℕ, ◌+◌, ◌-◌, ◌<◌, ◌≤◌, max}
+use Prim.Native.Nat.{ℕ, ◌+◌, ◌-◌, ◌<◌, ◌≤◌}
 use native.Mathlib.Omega.{arith}
 use lib.Dec.{eqb}
-use lib.ListN.{length, get_or, set, length-set}
-use lib.Seq.{get_or-set_same, get_or-set_other}
+use lib.ListN.{length, get_or, set, replicate, take, drop, length-replicate, length-drop, get_or-replicate, get_or-append}
+use Rattle.std.proofs.lemmas.List.{get_or-append_right, places}
+use borrow.Author.Rules.{rules}
+use lib.Seq.{get_or-set_same, get_or-set_other, length-take-le}
+use borrow.Rule.Slice.PartMut.{put_mid}
 use borrow.Author.Tests.{eqb-true, eqb-false}
 use Rattle.amplitude.proofs.Equal.{both}
-use Rattle.lookup.specs.declared.Found.{Found}
-use Rattle.lookup.specs.declared.Found.TheVariants.{Row, Nothing}
+use Rattle.std.specs.Option as told
 use Rattle.lookup.specs.Answer.{found}
 use Rattle.lookup.specs.Lookup.{is_some}
 use Rattle.meeting.proofs.AllLaws.{same_test, all_tells, all-is, all_ext}
@@ -84,46 +86,24 @@ cell_set row s there = record {
   others = λ q h. ap (λ (x : ℕ). eqb x 1) (get_or-set_other row s q 1 0 h);
 }
 
--- cells cleared one by one: those from `from` up to below i are zero, those before them are what they were
-pub record Clearing (entry row : List ℕ) (from to i : ℕ) : Type 0 where
-  pub after : from ≤ i
-  pub top : i ≤ max from to
-  pub long : length row ≡ length entry
-  pub zeros : (j : ℕ) → from ≤ j → j < i → get_or row j 0 ≡ 0
-  pub low : (j : ℕ) → j < from → get_or row j 0 ≡ get_or entry j 0
+-- ---- cells filled with zeros, from `from` up to below `to`
+module _ (row part : List ℕ) (from to : ℕ) (lt : from < to) (fits : to ≤ length row) (e : part ≡ replicate (length (take (to - from) (drop from row))) 0) where
+  cell-in : (j : ℕ) → from ≤ j → j < to → get_or (put_mid from (to - from) row part) j 0 ≡ 0
+  cell-in j h k =
+      let l : length part ≡ to - from = rw (e, length-replicate) (omega (arith, length-drop from row, length-take-le (to - from) (drop from row))) in
+      let m : j - from < length (take (to - from) (drop from row)) = omega (arith, ap length e, length-replicate {A = ℕ} (length (take (to - from) (drop from row))) 0) in
+      get_or-append_right (take from row) _ from j 0 (length-take-le from row (omega arith)) h
+      ∙ get_or-append part _ 0 (j - from) (omega arith)
+      ∙ rw e (get_or-replicate _ (j - from) 0 0 m)
 
-pub clear_begin : (entry : List ℕ) (from to : ℕ) → Clearing entry entry from to from
-clear_begin entry from to = record { after = omega arith; top = omega arith; long = refl; zeros = λ j a b. absurd (omega arith); low = λ j a. refl }
+  cell-before : (j : ℕ) → j < from → get_or (put_mid from (to - from) row part) j 0 ≡ get_or row j 0
+  cell-before j h = search (rules, places)
 
-module _ {entry row : List ℕ} {from to i : ℕ} (w : Clearing entry row from to i) where
-  pub clear_next : to ≤ length entry → i < to → Clearing entry (set row i 0) from to (i + 1)
-  clear_next fits lt =
-      let after = w.after in
-      let long = w.long in
-      record {
-        after = omega arith;
-        top = omega arith;
-        long = length-set row i 0 ∙ long;
-        zeros = λ j a b. go j a b (eqb j i) refl;
-        low = λ j a. get_or-set_other row i j 0 0 (λ e. omega arith) ∙ w.low j a;
-      }
-    where
-      go : (j : ℕ) → from ≤ j → j < i + 1 → (b : Bool) → eqb j i ≡ b → get_or (set row i 0) j 0 ≡ 0
-      go j lo hi true e = ap (λ (q : ℕ). get_or (set row i 0) q 0) (eqb-true j i e) ∙ get_or-set_same row i 0 0 (omega (arith, w.long))
-      go j lo hi false e = get_or-set_other row i j 0 0 (eqb-false j i e) ∙ w.zeros j lo (omega (arith, eqb-false j i e))
-
-  pub clear_all : to ≤ i → Emptied entry from to row
+  pub emptied : Emptied row from to (put_mid from (to - from) row part)
   unfolding is_reached
-  clear_all le = record {
-    within = λ q lo hi. ap (λ (x : ℕ). eqb x 1) (w.zeros q lo (omega arith));
-    before = λ q lt. ap (λ (x : ℕ). eqb x 1) (w.low q lt);
-  }
+  emptied = record { within = λ q lo hi. ap (λ (x : ℕ). eqb x 1) (cell-in q lo hi); before = λ q h. ap (λ (x : ℕ). eqb x 1) (cell-before q h) }
 
 -- ---- what a lookup's answer says
-pub row-found : (o : Option ℕ) (i : ℕ) {a : Found} → a ≡ found o → a ≡ Row i → is_some o ≡ true
-row-found none i e f = let z : ◌≡◌ {A = ℕ} 0 1 = cc in absurd (omega arith)
-row-found (some j) i e f = refl
-
-pub nothing-found : (o : Option ℕ) {a : Found} → a ≡ found o → a ≡ Nothing → is_some o ≡ false
-nothing-found none e f = refl
-nothing-found (some j) e f = let z : ◌≡◌ {A = ℕ} 0 1 = cc in absurd (omega arith)
+pub found_some : (o : Option ℕ) → told.is_some (found o) ≡ is_some o
+found_some none = refl
+found_some (some j) = refl

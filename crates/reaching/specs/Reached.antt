@@ -3,6 +3,7 @@
 use Rattle.std.specs.Prelude.{◌≡◌, Bool, true, false, cond, ◌&&◌, List, ℕ, ◌+◌, ◌-◌, ◌*◌, ◌<◌, ◌≤◌, eqb, length, get_or}
 use Rattle.std.proofs.Math.Option.{Option, none, some}
 use Rattle.automata.specs.Choice.{has}
+use Rattle.tables.specs.declared.Table.{Table}
 use Rattle.tables.specs.Table.{row_width}
 use Rattle.lookup.specs.Lookup.{pair_row, choices_of}
 use Rattle.meeting.specs.All.{all_in}
@@ -88,3 +89,22 @@ pub record Spread (row : List ℕ) (from to : ℕ) (all : (ℕ → Bool) → Boo
 pub record Gone (row : List ℕ) (from to : ℕ) (all : (ℕ → Bool) → Bool) (row' : List ℕ) (r : Bool) : Type 0 where
   pub kept : Kept row from row'
   pub is : (g : ℕ → Bool) → r && all_reached g row' from to ≡ all g
+
+-- ---- of a table
+abbrev pub kids_on : Table → ℕ → (ℕ → Bool) → ℕ → Bool
+kids_on t c g s = kids_in t.rows.now t.masks.now t.first.now c g s
+
+abbrev pub has_choice_on : Table → ℕ → ℕ → Bool
+has_choice_on t d s = has_choice t.masks.now t.first.now d s
+
+abbrev pub KidsThereOn : Table → ℕ → ℕ → Type 0
+KidsThereOn t size i = KidsThere t.rows.now size i
+
+abbrev pub ReadyOn : Table → ℕ → ℕ → ℕ → ℕ → Type 0
+ReadyOn t size s from to = Ready t.rows.now t.masks.now t.first.now size s from to
+
+abbrev pub StageOn : Table → ℕ → ℕ → ℕ → ℕ → Type 0
+StageOn t size from to till = Stage t.rows.now t.masks.now t.first.now size from to till
+
+abbrev pub EndedOn : Table → ℕ → Type 0
+EndedOn t s = Ended t.masks.now t.first.now s

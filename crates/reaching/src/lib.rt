@@ -5,13 +5,10 @@
 ghost use Rattle.std.specs.Prelude.{◌≡◌, ◌&&◌, ℕ, ◌≤◌, ◌<◌, length};
 ghost use Rattle.automata.specs.Choice.{choices_most, has};
 ghost use Rattle.lookup.specs.Lookup.{transition_row, pair_row, is_some};
-ghost use Rattle.reaching.specs.Reached.{is_reached, if_reached, all_reached, kids_in, has_choice, Reaching, Emptied, KidsThere, Twice, Ready, Stage, Ended, Spread, Gone};
+ghost use Rattle.reaching.specs.Reached.{is_reached, if_reached, all_reached, Reaching, Emptied, Twice, Spread, Gone, kids_on, has_choice_on, KidsThereOn, ReadyOn, StageOn, EndedOn};
 
-use lookup::{Found, choices_of, transition};
-use tables::ROW_WIDTH;
-
-// Every choice.
-const ALL: u32 = 4294967295;
+use lookup::{choices_of, transition};
+use tables::{ROW_WIDTH, Table};
 
 // State s is reached.
 fn is_reached(reached: &[u8], s: u16) -> bool
@@ -34,150 +31,113 @@ pub fn reach_none(reached: &mut [u8], from: u16, to: u16)
     requires { to ≤ length reached.old }
     ensures { Emptied reached.old from to reached.new }
 {
-    let mut s = from;
-    while s < to {
-        reached[s as usize] = 0;
-        s += 1;
+    if from < to {
+        reached[from as usize..to as usize].fill(0);
     }
 }
 
 // Both children of row i are reached.
-fn reach_kids(rows: &[u16], reached: &mut [u8], i: u16)
-    requires { KidsThere rows.now (length reached.old) i }
-    ensures { Twice reached.old (pair_row rows.now i) reached.new }
+fn reach_kids(table: &Table, reached: &mut [u8], i: u16)
+    requires { KidsThereOn table.now (length reached.old) i }
+    ensures { Twice reached.old (pair_row table.now.rows.now i) reached.new }
 {
     let at = i as usize * ROW_WIDTH;
-    reach(reached, rows[at + 1]);
-    reach(reached, rows[at + 2]);
+    reach(reached, table.rows[at + 1]);
+    reach(reached, table.rows[at + 2]);
 }
 
 // The children of state s under choice c, if it has a transition with it.
-fn reach_moved(
-    rows: &[u16],
-    masks: &[u32],
-    first: &[u16],
-    reached: &mut [u8],
-    c: u8,
-    s: u16,
-) -> bool
-    requires { ((from : ℕ) × (to : ℕ) × Ready rows.now masks.now first.now (length reached.old) s from to) × (c < choices_most) }
-    ensures { (from to : ℕ) → Ready rows.now masks.now first.now (length reached.old) s from to
-        → Spread reached.old from to (λ g. kids_in rows.now masks.now first.now c g s) reached.new result }
+fn reach_moved(table: &Table, reached: &mut [u8], c: u8, s: u16) -> bool
+    requires { ((from : ℕ) × (to : ℕ) × ReadyOn table.now (length reached.old) s from to) × (c < choices_most) }
+    ensures { (from to : ℕ) → ReadyOn table.now (length reached.old) s from to
+        → Spread reached.old from to (λ g. kids_on table.now c g s) reached.new result }
 {
-    let found = transition(masks, first, s, c);
-    let Found::Row(i) = found else {
+    let Some(i) = transition(table, s, c) else {
         return false;
     };
-    reach_kids(rows, reached, i);
+    reach_kids(table, reached, i);
     true
 }
 
 // The same, if state s is reached.
-fn reach_from(rows: &[u16], masks: &[u32], first: &[u16], reached: &mut [u8], c: u8, s: u16) -> bool
-    requires { ((from : ℕ) × (to : ℕ) × Ready rows.now masks.now first.now (length reached.old) s from to) × (c < choices_most) }
-    ensures { (from to : ℕ) → Ready rows.now masks.now first.now (length reached.old) s from to
-        → Spread reached.old from to (λ g. if_reached (kids_in rows.now masks.now first.now c g) reached.old s) reached.new result }
+fn reach_from(table: &Table, reached: &mut [u8], c: u8, s: u16) -> bool
+    requires { ((from : ℕ) × (to : ℕ) × ReadyOn table.now (length reached.old) s from to) × (c < choices_most) }
+    ensures { (from to : ℕ) → ReadyOn table.now (length reached.old) s from to
+        → Spread reached.old from to (λ g. if_reached (kids_on table.now c g) reached.old s) reached.new result }
 {
     if !is_reached(reached, s) {
         return true;
     }
-    reach_moved(rows, masks, first, reached, c, s)
+    reach_moved(table, reached, c, s)
 }
 
 // The children of all reached states from `from` up to below `to`.
-fn reach_states(
-    rows: &[u16],
-    masks: &[u32],
-    first: &[u16],
-    reached: &mut [u8],
-    c: u8,
-    from: u16,
-    to: u16,
-) -> bool
-    requires { ((till : ℕ) × Stage rows.now masks.now first.now (length reached.old) from to till) × (c < choices_most) }
-    ensures { (till : ℕ) → Stage rows.now masks.now first.now (length reached.old) from to till
-        → Spread reached.old to till (λ g. all_reached (kids_in rows.now masks.now first.now c g) reached.old from to) reached.new result }
+fn reach_states(table: &Table, reached: &mut [u8], c: u8, from: u16, to: u16) -> bool
+    requires { ((till : ℕ) × StageOn table.now (length reached.old) from to till) × (c < choices_most) }
+    ensures { (till : ℕ) → StageOn table.now (length reached.old) from to till
+        → Spread reached.old to till (λ g. all_reached (kids_on table.now c g) reached.old from to) reached.new result }
 {
-    let mut s = from;
-    while s < to {
-        if !reach_from(rows, masks, first, reached, c, s) {
+    for s in from..to {
+        if !reach_from(table, reached, c, s) {
             return false;
         }
-        s += 1;
     }
     true
 }
 
 // One level down by choice c: on the next level, from `to` up to below `till`, just the children of this level's reached states are reached, if
 // all of them have a transition with the choice.
-pub fn reach_next(
-    rows: &[u16],
-    masks: &[u32],
-    first: &[u16],
-    reached: &mut [u8],
-    c: u8,
-    from: u16,
-    to: u16,
-    till: u16,
-) -> bool
-    requires { Stage rows.now masks.now first.now (length reached.old) from to till × (c < choices_most) }
-    ensures { Gone reached.old to till (λ g. all_reached (kids_in rows.now masks.now first.now c g) reached.old from to) reached.new result }
+pub fn reach_next(table: &Table, reached: &mut [u8], c: u8, from: u16, to: u16, till: u16) -> bool
+    requires { StageOn table.now (length reached.old) from to till × (c < choices_most) }
+    ensures { Gone reached.old to till (λ g. all_reached (kids_on table.now c g) reached.old from to) reached.new result }
 {
     reach_none(reached, to, till);
-    reach_states(rows, masks, first, reached, c, from, to)
+    reach_states(table, reached, c, from, to)
 }
 
 // State s, if it is reached, has a transition with choice c.
-fn ends(masks: &[u32], first: &[u16], reached: &[u8], c: u8, s: u16) -> bool
-    requires { Ended masks.now first.now s × (s < length reached.now) × (c < choices_most) }
-    ensures { result ≡ if_reached (λ (q : ℕ). is_some (transition_row masks.now first.now q c)) reached.now s }
+fn ends(table: &Table, reached: &[u8], c: u8, s: u16) -> bool
+    requires { EndedOn table.now s × (s < length reached.now) × (c < choices_most) }
+    ensures { result ≡ if_reached (λ (q : ℕ). is_some (transition_row table.now.masks.now table.now.first.now q c)) reached.now s }
 {
     if !is_reached(reached, s) {
         return true;
     }
-    let found = transition(masks, first, s, c);
-    match found {
-        Found::Row(_) => true,
-        Found::Nothing => false,
-    }
+    transition(table, s, c).is_some()
 }
 
 // All reached states from `from` up to below `to` have a transition with choice c.
-pub fn ends_all(masks: &[u32], first: &[u16], reached: &[u8], c: u8, from: u16, to: u16) -> bool
-    requires { ((s : ℕ) → from ≤ s → s < to → Ended masks.now first.now s) × (to ≤ length reached.now) × (c < choices_most) }
-    ensures { result ≡ all_reached (λ (q : ℕ). is_some (transition_row masks.now first.now q c)) reached.now from to }
+pub fn ends_all(table: &Table, reached: &[u8], c: u8, from: u16, to: u16) -> bool
+    requires { ((s : ℕ) → from ≤ s → s < to → EndedOn table.now s) × (to ≤ length reached.now) × (c < choices_most) }
+    ensures { result ≡ all_reached (λ (q : ℕ). is_some (transition_row table.now.masks.now table.now.first.now q c)) reached.now from to }
 {
-    let mut s = from;
-    while s < to {
-        if !ends(masks, first, reached, c, s) {
+    for s in from..to {
+        if !ends(table, reached, c, s) {
             return false;
         }
-        s += 1;
     }
     true
 }
 
 // The mask with the choices of state s only, if it is reached.
-fn reached_state(masks: &[u32], first: &[u16], reached: &[u8], s: u16, mask: u32) -> u32
-    requires { Ended masks.now first.now s × (s < length reached.now) }
-    ensures { (d : ℕ) → has result d ≡ has mask d && if_reached (has_choice masks.now first.now d) reached.now s }
+fn reached_state(table: &Table, reached: &[u8], s: u16, mask: u32) -> u32
+    requires { EndedOn table.now s × (s < length reached.now) }
+    ensures { (d : ℕ) → has result d ≡ has mask d && if_reached (has_choice_on table.now d) reached.now s }
 {
     if !is_reached(reached, s) {
         return mask;
     }
-    mask & choices_of(masks, first, s)
+    mask & choices_of(table, s)
 }
 
 // The choices that all reached states from `from` up to below `to` have: a word can go on with no other. All choices where none is reached.
-pub fn reached_choices(masks: &[u32], first: &[u16], reached: &[u8], from: u16, to: u16) -> u32
-    requires { ((s : ℕ) → from ≤ s → s < to → Ended masks.now first.now s) × (to ≤ length reached.now) }
-    ensures { (d : ℕ) → d < choices_most → has result d ≡ all_reached (has_choice masks.now first.now d) reached.now from to }
+pub fn reached_choices(table: &Table, reached: &[u8], from: u16, to: u16) -> u32
+    requires { ((s : ℕ) → from ≤ s → s < to → EndedOn table.now s) × (to ≤ length reached.now) }
+    ensures { (d : ℕ) → d < choices_most → has result d ≡ all_reached (has_choice_on table.now d) reached.now from to }
 {
-    let mut left: u32 = ALL;
-    let mut s = from;
-    while s < to {
-        left = reached_state(masks, first, reached, s, left);
-        s += 1;
+    let mut left = u32::MAX;
+    for s in from..to {
+        left = reached_state(table, reached, s, left);
     }
     left
 }

@@ -3,7 +3,6 @@
 #![tactic(auto)]
 
 ghost use Rattle.std.specs.Prelude.{◌≡◌, ◌+◌, ◌≤◌, length};
-ghost use Rattle.automata.specs.Sets.{tr};
 ghost use Rattle.stored.specs.Form.{lv_size, tr_size};
 ghost use Rattle.stored.specs.Pack.{lv_bytes, tr_bytes};
 ghost use Rattle.tables.specs.Table.{tr_row};
@@ -11,13 +10,13 @@ ghost use Rattle.putting.specs.Front.{at_front};
 ghost use Rattle.recording.specs.Record.{start_bytes, HasRow};
 
 use putting::{put_mark, put_u16, put_u32};
-use tables::ROW_WIDTH;
+use tables::{ROW_WIDTH, Table};
 
 // "n+1 records" of LV.
 pub fn levels_of(n: u8) -> usize
     ensures { result ≡ n + 1 }
 {
-    n as usize + 1
+    usize::from(n) + 1
 }
 
 // LV: "states on this level".
@@ -39,21 +38,13 @@ pub fn put_start(out: &mut [u8], first: u8, second: u8, state: u16, mask: u32)
     put_u32(&mut out[4..], mask);
 }
 
-// TR: after its start "left (2), right (2)".
-fn put_tr(out: &mut [u8], state: u16, mask: u32, left: u16, right: u16)
-    requires { tr_size ≤ length out.old }
-    ensures { out.new ≡ at_front (tr_bytes (tr state mask left right)) out.old }
-{
-    put_start(out, b'T', b'R', state, mask);
-    put_u16(&mut out[8..], left);
-    put_u16(&mut out[10..], right);
-}
-
-// The TR record of row i.
-pub fn put_tr_row(out: &mut [u8], rows: &[u16], masks: &[u32], i: usize)
-    requires { (tr_size ≤ length out.old) × HasRow rows.now masks.now i }
-    ensures { out.new ≡ at_front (tr_bytes (tr_row rows.now masks.now i)) out.old }
+// The TR record of row i: after its start "left (2), right (2)".
+pub fn put_tr_row(out: &mut [u8], table: &Table, i: usize)
+    requires { (tr_size ≤ length out.old) × HasRow table.now.rows.now table.now.masks.now i }
+    ensures { out.new ≡ at_front (tr_bytes (tr_row table.now.rows.now table.now.masks.now i)) out.old }
 {
     let at = i * ROW_WIDTH;
-    put_tr(out, rows[at], masks[i], rows[at + 1], rows[at + 2]);
+    put_start(out, b'T', b'R', table.rows[at], table.masks[i]);
+    put_u16(&mut out[8..], table.rows[at + 1]);
+    put_u16(&mut out[10..], table.rows[at + 2]);
 }

@@ -59,29 +59,23 @@ pub fn count_at(s: &[u8], at: usize) -> u16
     u16_at(s, at + 2)
 }
 
-// The state and the choices that stand at a place: the reader's work, on a plain slice and a number.
-fn key_fields(s: &[u8], at: usize) -> Key
-    requires { at + 8 ≤ length s.now }
-    ensures { result ≡ key_read s.now at }
-{
-    let state = u16_at(s, at + 2);
-    let mask = u32_at(s, at + 4);
-    Key { state, mask }
-}
+impl<'a> RecordReader<'a> {
+    // A reader of the lent file whose next record is at a place.
+    pub fn new(file: &'a [u8], at: usize) -> RecordReader<'a>
+        ensures { (result.file ≡ file.entry) × (result.at ≡ at) }
+    {
+        RecordReader { file, at }
+    }
 
-// A reader of the lent file whose next record is at a place.
-pub fn reader_at<'a>(file: &'a [u8], at: usize) -> RecordReader<'a>
-    ensures { (result.file ≡ file.entry) × (result.at ≡ at) }
-{
-    RecordReader { file, at }
-}
-
-// The state and the choices of a reader's next record, a TR or an LF.
-pub fn next_key<'a>(r: RecordReader<'a>) -> Key
-    requires { r.at + 8 ≤ length r.file.now }
-    ensures { result ≡ key_read r.entry.file.now r.entry.at }
-{
-    key_fields(r.file, r.at)
+    // The state and the choices of the next record, a TR or an LF.
+    pub fn next_key(self) -> Key
+        requires { self.at + 8 ≤ length self.file.now }
+        ensures { result ≡ key_read self.entry.file.now self.entry.at }
+    {
+        let state = u16_at(self.file, self.at + 2);
+        let mask = u32_at(self.file, self.at + 4);
+        Key { state, mask }
+    }
 }
 
 // The state and the choices of the TR or LF record at a place. Whoever calls it knows of no reader.
@@ -89,7 +83,7 @@ pub fn key_at(s: &[u8], at: usize) -> Key
     requires { at + 8 ≤ length s.now }
     ensures { result ≡ key_read s.now at }
 {
-    next_key(reader_at(s, at))
+    RecordReader::new(s, at).next_key()
 }
 
 // The TR record at a place.
@@ -97,12 +91,12 @@ pub fn tr_at(s: &[u8], at: usize) -> Tr
     requires { at + tr_size ≤ length s.now }
     ensures { result ≡ tr_read s.now at }
 {
-    let key = key_at(s, at);
+    let Key { state, mask } = key_at(s, at);
     let left = u16_at(s, at + 8);
     let right = u16_at(s, at + 10);
     Tr {
-        state: key.state,
-        mask: key.mask,
+        state,
+        mask,
         left,
         right,
     }
@@ -113,14 +107,14 @@ pub fn lf_at(s: &[u8], at: usize) -> Lf
     requires { at + lf_size ≤ length s.now }
     ensures { result ≡ lf_read s.now at }
 {
-    let key = key_at(s, at);
+    let Key { state, mask } = key_at(s, at);
     let a = i32_at(s, at + 8);
     let b = i32_at(s, at + 12);
     let c = i32_at(s, at + 16);
     let d = i32_at(s, at + 20);
     Lf {
-        state: key.state,
-        mask: key.mask,
+        state,
+        mask,
         a,
         b,
         c,

@@ -2,16 +2,14 @@
 // in the words j * plane up to below (j + 1) * plane.
 #![tactic(auto)]
 
-ghost use Rattle.std.specs.Prelude.{◌≡◌, true, ℕ, ◌+◌, ◌*◌, ◌≤◌, ◌<◌, List, length, get_or};
+ghost use Rattle.std.specs.Prelude.{◌≡◌, ℕ, ◌+◌, ◌*◌, ◌≤◌, ◌<◌, List, length, get_or};
 ghost use Rattle.automata.specs.Choice.{choices_most};
-ghost use Rattle.lookup.specs.Alts.{table_automaton};
-ghost use Rattle.fitting.specs.Fit.{LeafStage};
-ghost use Rattle.matching.specs.Seeking.{sought};
-ghost use Rattle.relating.specs.Found.{plane_of, found};
+ghost use Rattle.fitting.specs.Fit.{LeafStageOn};
+ghost use Rattle.relating.specs.Found.{plane_of, sought_on, found_on};
 ghost use Rattle.relating.specs.Planes.{Copied, Room};
 
 use fitting::fit_any;
-use meeting::Level;
+use meeting::{Level, Sides};
 
 // The words of `count` states.
 pub fn words(wide: u16, count: u16) -> usize
@@ -33,11 +31,7 @@ pub fn copy_words(source: &[u32], at: usize, words: &mut [u32], there: usize, co
     requires { (at + count ≤ length source.now) × (there + count ≤ length words.old) }
     ensures { Copied source.now at words.old there count words.new }
 {
-    let mut i: usize = 0;
-    while i < count {
-        words[there + i] = source[at + i];
-        i += 1;
-    }
+    words[there..there + count].copy_from_slice(&source[at..at + count]);
 }
 
 // The level's marks of plane k become those of another row.
@@ -51,72 +45,24 @@ pub fn copy_out(stack: &[u32], plane: u16, k: u16, wide: u16, row: &mut [u32], l
 }
 
 // Relation j leads to equal leaves on the last level, by choice c of the image's word.
-fn plane_leads(
-    rows: &[u16],
-    masks: &[u32],
-    coefs: &[i32],
-    first: &[u16],
-    endrows: &[u16],
-    endmasks: &[u32],
-    endcoefs: &[i32],
-    endfirst: &[u16],
-    stack: &[u32],
-    plane: u16,
-    j: u16,
-    wide: u16,
-    c: u8,
-    level: Level,
-) -> bool
-    requires { LeafStage rows.now masks.now coefs.now first.now endrows.now endmasks.now endcoefs.now endfirst.now wide plane level × (c < choices_most) × (j * plane + plane ≤ length stack.now) }
-    ensures { (word : List ℕ) (at : ℕ) → get_or word at 0 ≡ c → result ≡ sought (table_automaton rows.now masks.now coefs.now first.now) (table_automaton endrows.now endmasks.now endcoefs.now endfirst.now) word at 0 wide (plane_of plane stack.now j) level }
+fn plane_leads(sides: &Sides, stack: &[u32], plane: u16, j: u16, c: u8, level: Level) -> bool
+    requires { LeafStageOn sides.now plane level × (c < choices_most) × (j * plane + plane ≤ length stack.now) }
+    ensures { (word : List ℕ) (at : ℕ) → get_or word at 0 ≡ c → result ≡ sought_on sides.now word at 0 (plane_of plane stack.now j) level }
 {
     let start = cell(plane, j, 0);
     let stop = cell(plane, j, plane as usize);
-    fit_any(
-        rows,
-        masks,
-        coefs,
-        first,
-        endrows,
-        endmasks,
-        endcoefs,
-        endfirst,
-        &stack[start..stop],
-        wide,
-        c,
-        level,
-    )
+    fit_any(sides, &stack[start..stop], c, level)
 }
 
 // One of the first p relations leads to equal leaves on the last level, by choice c of the image's word.
-pub fn leads(
-    rows: &[u16],
-    masks: &[u32],
-    coefs: &[i32],
-    first: &[u16],
-    endrows: &[u16],
-    endmasks: &[u32],
-    endcoefs: &[i32],
-    endfirst: &[u16],
-    stack: &[u32],
-    plane: u16,
-    p: u16,
-    wide: u16,
-    c: u8,
-    level: Level,
-) -> bool
-    requires { LeafStage rows.now masks.now coefs.now first.now endrows.now endmasks.now endcoefs.now endfirst.now wide plane level × (c < choices_most) × (p * plane ≤ length stack.now) }
-    ensures { (word : List ℕ) (at : ℕ) → get_or word at 0 ≡ c → result ≡ found (table_automaton rows.now masks.now coefs.now first.now) (table_automaton endrows.now endmasks.now endcoefs.now endfirst.now) word at 0 wide plane stack.now p level }
+pub fn leads(sides: &Sides, stack: &[u32], plane: u16, p: u16, c: u8, level: Level) -> bool
+    requires { LeafStageOn sides.now plane level × (c < choices_most) × (p * plane ≤ length stack.now) }
+    ensures { (word : List ℕ) (at : ℕ) → get_or word at 0 ≡ c → result ≡ found_on sides.now word at 0 plane stack.now p level }
 {
-    let mut j: u16 = 0;
-    while j < p {
-        if plane_leads(
-            rows, masks, coefs, first, endrows, endmasks, endcoefs, endfirst, stack, plane, j,
-            wide, c, level,
-        ) {
+    for j in 0..p {
+        if plane_leads(sides, stack, plane, j, c, level) {
             return true;
         }
-        j += 1;
     }
     false
 }

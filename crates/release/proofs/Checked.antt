@@ -8,7 +8,7 @@ use lib.ListN.{length}
 use borrow.Author.Tests.{lt-leb}
 use Rattle.jobs.specs.Check.{check_answer}
 use Rattle.jobs.specs.Entry.{reply_size, reply_buffer, reply_number, check_entry, check_entry_number}
-use Rattle.replies.specs.declared.Reply.{Reply}
+use Rattle.replies.specs.declared.Fields.{Fields}
 use Rattle.replies.specs.Replied.{reply_from}
 use Rattle.replies.specs.Laid.{laid, told}
 use Rattle.replies.proofs.Replies.{laid_of, told_of}
@@ -28,11 +28,11 @@ module _ (s c e : List ℕ) (most : ℕ) (lent : List ℕ) where
     short_buffer = rw short refl
 
   -- any other one
-  module _ {r : Reply} (is : r ≡ reply_from (check_answer s c e most)) where
+  module _ {r : Fields} (is : r ≡ reply_from (check_answer s c e most)) where
     pub long-number : {m : ℕ} → m ≡ told r lent → m ≡ check_entry_number s c e most lent
     unfolding check_entry_number
-    long-number g = g ∙ ap (λ (q : Reply). told q lent) is ∙ told_of (check_answer s c e most) lent
+    long-number g = g ∙ ap (λ (q : Fields). told q lent) is ∙ told_of (check_answer s c e most) lent
 
     pub long_buffer : {exit : List ℕ} → exit ≡ laid r lent → exit ≡ check_entry s c e most lent
     unfolding check_entry
-    long_buffer g = g ∙ ap (λ (q : Reply). laid q lent) is ∙ laid_of (check_answer s c e most) lent
+    long_buffer g = g ∙ ap (λ (q : Fields). laid q lent) is ∙ laid_of (check_answer s c e most) lent

@@ -8,7 +8,7 @@ use lib.ListN.{length}
 use borrow.Author.Tests.{le-leb, lt-leb}
 use Rattle.jobs.specs.OneGate.{one_gate_reply, one_gate_output}
 use Rattle.jobs.specs.Entry.{reply_size, reply_buffer, reply_number, one_gate_entry, one_gate_entry_number, one_gate_entry_output}
-use Rattle.replies.specs.declared.Reply.{Reply}
+use Rattle.replies.specs.declared.Fields.{Fields}
 use Rattle.replies.specs.Replied.{reply_from}
 use Rattle.replies.specs.Laid.{laid, told}
 use Rattle.replies.proofs.Replies.{laid_of, told_of}
@@ -32,14 +32,14 @@ module _ (s c output lent : List ℕ) (h : length lent < reply_size) where
 
 -- ---- any other one
 module _ (s c output : List ℕ) where
-  module _ (lent : List ℕ) (h : reply_size ≤ length lent) {r : Reply} (is : r ≡ reply_from (one_gate_reply s c output)) where
+  module _ (lent : List ℕ) (h : reply_size ≤ length lent) {r : Fields} (is : r ≡ reply_from (one_gate_reply s c output)) where
     pub long-number : {m : ℕ} → m ≡ told r lent → m ≡ one_gate_entry_number s c output lent
     unfolding one_gate_entry_number
-    long-number e = e ∙ ap (λ (q : Reply). told q lent) is ∙ told_of (one_gate_reply s c output) lent
+    long-number e = e ∙ ap (λ (q : Fields). told q lent) is ∙ told_of (one_gate_reply s c output) lent
 
     pub long_buffer : {exit : List ℕ} → exit ≡ laid r lent → exit ≡ one_gate_entry s c output lent
     unfolding one_gate_entry
-    long_buffer e = e ∙ ap (λ (q : Reply). laid q lent) is ∙ laid_of (one_gate_reply s c output) lent
+    long_buffer e = e ∙ ap (λ (q : Fields). laid q lent) is ∙ laid_of (one_gate_reply s c output) lent
 
   pub long_output : (lent : List ℕ) → reply_size ≤ length lent → {exit : List ℕ} → exit ≡ one_gate_output s c output → exit ≡ one_gate_entry_output s c output lent
   unfolding one_gate_entry_output

@@ -7,14 +7,14 @@ use lib.Dec.{leb}
 use lib.ListN.{length}
 use borrow.Author.Tests.{le-leb, lt-leb}
 use Rattle.jobs.specs.Entry.{reply_size, reply_buffer, reply_number}
-use Rattle.replies.specs.declared.Reply.{Reply}
+use Rattle.replies.specs.declared.Fields.{Fields}
 use Rattle.replies.specs.Replied.{reply_from}
 use Rattle.replies.specs.Laid.{laid, told}
 use Rattle.replies.proofs.Replies.{buffer_left, number-told}
 use Rattle.cliffords.specs.Jobs.{closing_reply, spell_reply, spell_output}
 use Rattle.cliffords.specs.Entry.{closing_entry, closing_entry_number, spell_entry, spell_entry_number, spell_entry_output}
 
-module _ (seq lent : List ℕ) {r : Reply} (is : r ≡ reply_from (closing_reply seq)) where
+module _ (seq lent : List ℕ) {r : Fields} (is : r ≡ reply_from (closing_reply seq)) where
   pub closing-number : {m : ℕ} → m ≡ told r lent → m ≡ closing_entry_number seq lent
   unfolding closing_entry_number
   closing-number e = number-told (closing_reply seq) lent is e
@@ -42,7 +42,7 @@ module _ (e : ℕ) (output lent : List ℕ) where
     short_buffer = rw short refl
 
   -- any other one
-  module _ {r : Reply} (is : r ≡ reply_from (spell_reply e output)) where
+  module _ {r : Fields} (is : r ≡ reply_from (spell_reply e output)) where
     pub spell_number : {m : ℕ} → m ≡ told r lent → m ≡ spell_entry_number e output lent
     unfolding spell_entry_number
     spell_number t = number-told (spell_reply e output) lent is t

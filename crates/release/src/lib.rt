@@ -9,7 +9,8 @@ ghost use Rattle.jobs.specs.Entry.{check_entry, check_entry_number, one_gate_ent
 
 use checkjob::check_own;
 use onegate::one_gate;
-use replies::{REPLY_SIZE, put_reply};
+use refusals::Reason;
+use replies::{Fields, REPLY_SIZE, put_reply};
 use terms::Terms;
 
 // The one-gate job. The number of the reply comes back, 0 where nothing was refused; a reply buffer under 64 bytes gives 17, and nothing is
@@ -26,10 +27,10 @@ pub extern "C" fn zhargutai_one_gate(
     ensures reply_after { reply.new ≡ one_gate_entry set.now circuit.now output.old reply.old }
 {
     if reply.len() < REPLY_SIZE {
-        return 17;
+        return u32::from(Reason::Short.number());
     }
     let told = one_gate(set, circuit, output);
-    put_reply(reply, told)
+    put_reply(reply, Fields::from(told))
 }
 
 // The check, with the allowance `most`. The number of the reply comes back, 0 where nothing was refused; a reply buffer under 64 bytes gives 17,
@@ -46,8 +47,8 @@ pub extern "C" fn zhargutai_check(
     ensures reply_after { reply.new ≡ check_entry start.now circuit.now end.now most reply.old }
 {
     if reply.len() < REPLY_SIZE {
-        return 17;
+        return u32::from(Reason::Short.number());
     }
     let told = check_own(start, circuit, end, Terms { most });
-    put_reply(reply, told)
+    put_reply(reply, Fields::from(told))
 }

@@ -4,7 +4,8 @@ ghost use Rattle.std.specs.Prelude.{◌≡◌};
 ghost use Rattle.cliffords.specs.Entry.{closing_entry, closing_entry_number, spell_entry, spell_entry_number, spell_entry_output};
 
 use closing::{close_sequence, spell};
-use replies::{REPLY_SIZE, put_reply};
+use refusals::Reason;
+use replies::{Fields, REPLY_SIZE, put_reply};
 
 // The element that brings a sequence to the identity, as the reply's count. The number of the reply comes back, 0 where nothing was refused; a reply
 // buffer under 64 bytes gives 17, and nothing is written.
@@ -13,7 +14,7 @@ pub extern "C" fn zhargutai_closing(sequence: &[u8], reply: &mut [u8]) -> u32
     ensures value { result ≡ closing_entry_number sequence.now reply.old }
     ensures reply_after { reply.new ≡ closing_entry sequence.now reply.old }
 {
-    put_reply(reply, close_sequence(sequence))
+    put_reply(reply, Fields::from(close_sequence(sequence)))
 }
 
 // The codes of the element's word at the front of the output, and how many as the reply's count. The number of the reply comes back, 0 where nothing
@@ -25,7 +26,7 @@ pub extern "C" fn zhargutai_spell(element: u32, output: &mut [u8], reply: &mut [
     ensures reply_after { reply.new ≡ spell_entry element output.old reply.old }
 {
     if reply.len() < REPLY_SIZE {
-        return 17;
+        return u32::from(Reason::Short.number());
     }
-    put_reply(reply, spell(element, output))
+    put_reply(reply, Fields::from(spell(element, output)))
 }

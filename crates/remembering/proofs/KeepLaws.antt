@@ -2,16 +2,22 @@
 use mathlib.Core.Path.{◌≡◌, sym, ap, ◌∙◌}
 use mathlib.Core.Bool.{true}
 use mathlib.Core.List.{List}
-use Prim.Native.Nat.{ℕ, suc, ◌+◌, ◌-◌, ◌*◌, ◌<◌, ◌≤◌}
+use Prim.Native.Nat.{ℕ, suc, ◌+◌, ◌*◌, ◌<◌, ◌≤◌}
 use native.Mathlib.Decide.{dec_lt, ℕ_discrete, le_ind}
 use native.Mathlib.Nat.{mul-le-mul_right}
 use native.Mathlib.Omega.{arith}
 use lib.ListN.{length, get_or, set}
 use lib.Seq.{get_or-drop, get_or-set_same, get_or-set_other}
 use Rattle.meeting.proofs.Places.{words-before}
-use Rattle.remembering.specs.Fits.{Placed, Fits, Put, Noted}
+use Rattle.std.specs.Prelude.{Option}
+use Rattle.std.specs.declared.option.Option.TheVariants.{Some, None}
+use Rattle.remembering.specs.declared.Seen.{Seen}
+use Rattle.remembering.specs.Fits.{Placed, Fits, Put}
 use Rattle.remembering.specs.Memory.{Same, slot_row, slot_stack, levels_most, cell_of, Saying, Remembered, Memory}
 use Rattle.remembering.proofs.SlotLaws.{same_slot, fits-placed, cell_below}
+
+some-same : {x y : Seen} → ◌≡◌ {A = Option Seen} (Some x) (Some y) → x ≡ y
+some-same e = cc
 
 -- a place in one of several parts of the same size tells the part and the place in it
 own_cell : (size a b i j : ℕ) → i < size → j < size → a * size + i ≡ b * size + j → (a ≡ b) × (i ≡ j)
@@ -73,9 +79,9 @@ module _
             let d' : i < low (suc at) * wide = rw (← f) (omega arith) in
             levels-apart low rising wide level at i lb la q a b c' d'
 
-  other_stays : (good : Saying) (slot level count size : ℕ) → level < levels_most → ((slot ≡ k) × (level ≡ at) → ⊥)
-      → Remembered wide plane room cells low good slot level count size rows kept → Remembered wide plane room cells low good slot level count size rows' kept'
-  other_stays good slot level count size lb apart r = record {
+  other_stays : (good : Saying) (slot level m size : ℕ) → level < levels_most → ((slot ≡ k) × (level ≡ at) → ⊥)
+      → Remembered wide plane room cells low good slot level m size rows kept → Remembered wide plane room cells low good slot level m size rows' kept'
+  other_stays good slot level m size lb apart r = record {
     few = r.few;
     short = r.short;
     narrow = r.narrow;
@@ -97,45 +103,45 @@ module _
 
   -- the block that was put says what holds of each block that is the same
   here-says : (good : Saying) (m : ℕ) → ((row₁ stack₁ : List ℕ) → Same wide plane from to p row stack row₁ stack₁ → good at p row₁ stack₁ m ≡ true)
-      → Remembered wide plane room cells low good k at (m + 1) p rows' kept'
+      → Remembered wide plane room cells low good k at m p rows' kept'
   here-says good m h = record {
     few = w.few;
     short = rw (← f) w.short;
     narrow = rw (← f) w.narrow;
-    says = λ row₁ stack₁ same.
-        let back : m + 1 - 1 ≡ m = omega arith in
-        rw back (h row₁ stack₁ (other_way (rw (← e, ← f) at same)));
+    says = λ row₁ stack₁ same. h row₁ stack₁ (other_way (rw (← e, ← f) at same));
   }
 
 module _
-    {at from to p wide plane room cells slots k m : ℕ} {row stack kept rows counts sizes kept' rows' counts' sizes' : List ℕ} (low : ℕ → ℕ) (good : Saying)
+    {at from to p wide plane room cells slots k m : ℕ} {row stack kept rows kept' rows' : List ℕ} {seen : List (Option Seen)} (low : ℕ → ℕ) (good : Saying)
     (rising : (i : ℕ) → i < levels_most → low i ≤ low (suc i)) (e : from ≡ low at) (f : to ≡ low (suc at))
-    (w : Fits at from to p wide plane room cells slots row stack kept rows counts sizes) (lt : k < slots)
-    (noted : Noted at from to p wide plane room cells k m row stack kept rows counts sizes kept' rows' counts' sizes') where
-  pub keeps-memory : Memory wide plane room cells slots low good counts sizes rows kept
+    (w : Fits at from to p wide plane room cells slots row stack kept rows seen) (lt : k < slots)
+    (put : Put from to p wide plane room cells k row stack kept rows kept' rows') where
+  pub keeps-memory : Memory wide plane room cells slots low good seen rows kept
       → ((row₁ stack₁ : List ℕ) → Same wide plane from to p row stack row₁ stack₁ → good at p row₁ stack₁ m ≡ true)
-      → Memory wide plane room cells slots low good counts' sizes' rows' kept'
-  keeps-memory memory h = record { each = λ slot level ls ll some. rw (noted.counted, noted.sized) (go slot level ls ll (rw noted.counted at some) (ℕ_discrete slot k) (ℕ_discrete level at)) }
+      → Memory wide plane room cells slots low good (set seen (cell_of k at) (Some (record { members = m; planes = p }))) rows' kept'
+  keeps-memory memory h = record { each = λ slot level m₁ p₁ ls ll known. go slot level m₁ p₁ ls ll known (ℕ_discrete slot k) (ℕ_discrete level at) }
     where
       placed : Placed from to p wide plane room cells k row stack kept rows
       placed = fits-placed k w lt
 
-      new_count : get_or (set counts (cell_of k at) (m + 1)) (cell_of k at) 0 ≡ m + 1
-      new_count = get_or-set_same counts (cell_of k at) (m + 1) 0 (cell_below k at slots (length counts) lt w.level w.in_counts)
+      here : (m₁ p₁ : ℕ) → get_or (set seen (cell_of k at) (Some (record { members = m; planes = p }))) (cell_of k at) None ≡ Some (record { members = m₁; planes = p₁ })
+          → Remembered wide plane room cells low good k at m₁ p₁ rows' kept'
+      here m₁ p₁ known =
+          let new = get_or-set_same seen (cell_of k at) (Some (record { members = m; planes = p })) None (cell_below k at slots (length seen) lt w.level w.in_seen) in
+          let same : ◌≡◌ {A = Seen} (record { members = m; planes = p }) (record { members = m₁; planes = p₁ }) = some-same (sym new ∙ known) in
+          rw (← ap (λ (x : Seen). x.members) same, ← ap (λ (x : Seen). x.planes) same) (here-says low rising e f w.level placed put good m h)
 
-      new_size : get_or (set sizes (cell_of k at) p) (cell_of k at) 0 ≡ p
-      new_size = get_or-set_same sizes (cell_of k at) p 0 (cell_below k at slots (length sizes) lt w.level w.in_sizes)
-
-      other : (slot level : ℕ) → slot < slots → level < levels_most → 0 < get_or (set counts (cell_of k at) (m + 1)) (cell_of slot level) 0 → ((slot ≡ k) × (level ≡ at) → ⊥)
-          → Remembered wide plane room cells low good slot level (get_or (set counts (cell_of k at) (m + 1)) (cell_of slot level) 0) (get_or (set sizes (cell_of k at) p) (cell_of slot level) 0) rows' kept'
-      other slot level ls ll some apart =
+      other : (slot level m₁ p₁ : ℕ) → slot < slots → level < levels_most
+          → get_or (set seen (cell_of k at) (Some (record { members = m; planes = p }))) (cell_of slot level) None ≡ Some (record { members = m₁; planes = p₁ })
+          → ((slot ≡ k) × (level ≡ at) → ⊥) → Remembered wide plane room cells low good slot level m₁ p₁ rows' kept'
+      other slot level m₁ p₁ ls ll known apart =
           let ne : cell_of slot level ≡ cell_of k at → ⊥ = λ q. apart (own_cell levels_most slot k level at ll w.level q) in
-          let c = get_or-set_other counts (cell_of k at) (cell_of slot level) (m + 1) 0 ne in
-          rw (c, get_or-set_other sizes (cell_of k at) (cell_of slot level) p 0 ne)
-          (other_stays low rising e f w.level placed noted.put good slot level _ _ ll apart (memory.each slot level ls ll (rw c at some)))
+          other_stays low rising e f w.level placed put good slot level m₁ p₁ ll apart
+          (memory.each slot level m₁ p₁ ls ll (sym (get_or-set_other seen (cell_of k at) (cell_of slot level) (Some (record { members = m; planes = p })) None ne) ∙ known))
 
-      go : (slot level : ℕ) → slot < slots → level < levels_most → 0 < get_or (set counts (cell_of k at) (m + 1)) (cell_of slot level) 0 → Dec (slot ≡ k) → Dec (level ≡ at)
-          → Remembered wide plane room cells low good slot level (get_or (set counts (cell_of k at) (m + 1)) (cell_of slot level) 0) (get_or (set sizes (cell_of k at) p) (cell_of slot level) 0) rows' kept'
-      go slot level ls ll some (yes q) (yes r) = rw (q, r, new_count, new_size) (here-says low rising e f w.level placed noted.put good m h)
-      go slot level ls ll some (yes q) (no r) = other slot level ls ll some (λ o. r o.1)
-      go slot level ls ll some (no q) d = other slot level ls ll some (λ o. q o.0)
+      go : (slot level m₁ p₁ : ℕ) → slot < slots → level < levels_most
+          → get_or (set seen (cell_of k at) (Some (record { members = m; planes = p }))) (cell_of slot level) None ≡ Some (record { members = m₁; planes = p₁ })
+          → Dec (slot ≡ k) → Dec (level ≡ at) → Remembered wide plane room cells low good slot level m₁ p₁ rows' kept'
+      go slot level m₁ p₁ ls ll known (yes q) (yes r) = rw (q, r) (here m₁ p₁ (rw (q, r) at known))
+      go slot level m₁ p₁ ls ll known (yes q) (no r) = other slot level m₁ p₁ ls ll known (λ o. r o.1)
+      go slot level m₁ p₁ ls ll known (no q) d = other slot level m₁ p₁ ls ll known (λ o. q o.0)

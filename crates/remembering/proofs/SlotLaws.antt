@@ -8,13 +8,15 @@ use native.Mathlib.Omega.{arith}
 use lib.ListN.{length}
 use lib.Seq.{get_or-drop}
 use Rattle.meeting.proofs.Places.{words-before}
-use Rattle.remembering.specs.Copies.{Equal, EqualPlanes, SpansPlanes}
+use Rattle.std.specs.Prelude.{Option}
+use Rattle.remembering.specs.declared.Seen.{Seen}
+use Rattle.remembering.specs.Copies.{Equal, EqualPlanes, Spans, SpansPlanes}
 use Rattle.remembering.specs.Fits.{Placed, Fits}
 use Rattle.remembering.specs.Memory.{Same, slot_row, slot_stack, levels_most, cell_of}
 
 -- every slot has room for the block
-pub fits-placed : {at from to p wide plane room cells slots : ℕ} {row stack kept rows counts sizes : List ℕ} (k : ℕ)
-    → Fits at from to p wide plane room cells slots row stack kept rows counts sizes → k < slots → Placed from to p wide plane room cells k row stack kept rows
+pub fits-placed : {at from to p wide plane room cells slots : ℕ} {row stack kept rows : List ℕ} {seen : List (Option Seen)} (k : ℕ)
+    → Fits at from to p wide plane room cells slots row stack kept rows seen → k < slots → Placed from to p wide plane room cells k row stack kept rows
 fits-placed {plane = plane} {room} {cells} {slots} k f lt = record {
   rising = f.rising;
   short = f.short;
@@ -26,13 +28,17 @@ fits-placed {plane = plane} {room} {cells} {slots} k f lt = record {
   in_kept = omega (arith, f.in_kept, words-before (room * plane) k slots lt);
 }
 
--- and a count for each level
+-- and a cell for each level
 pub cell_below : (k at slots size : ℕ) → k < slots → at < levels_most → slots * levels_most ≤ size → cell_of k at < size
 cell_below k at slots size lt l h = omega arith
 
 module _ {from to p wide plane room cells k : ℕ} {row stack kept rows : List ℕ} (w : Placed from to p wide plane room cells k row stack kept rows) where
   pub marks-start : from * wide ≤ plane
   marks-start = omega (arith, w.narrow, mul-le-mul_right wide w.rising)
+
+  -- its bytes lie in the slot's row
+  pub in_slot : Spans from to (k * cells) (length row) (length rows)
+  in_slot = record { rising = w.rising; source = w.in_row; target = omega (arith, w.in_rows, w.short) }
 
   pub placed-planes : SpansPlanes (from * wide) (to * wide) plane p (k * (room * plane)) (length stack) (length kept)
   placed-planes =

@@ -1,3 +1,4 @@
 pub mod Copies
 pub mod Fits
 pub mod Memory
+pub mod Slots

@@ -1,49 +1,51 @@
 // Blocks remembered level by level, so that a walk that meets one again knows its number of members at once. A block is what belongs to one
 // level, whose states are those from `from` up to below `to`: their bytes in `row`, and their marks, `wide` cells for each state, in the first p
 // planes of `stack`, of which plane j begins at cell j * plane. Slot k remembers a block for each level: its row begins at cell k * cells of
-// `rows`, its planes at cell k * (room * plane) of `kept`, and cell k * 21 + at of `counts` and of `sizes` has the block's members and 1 (0 for
-// nothing remembered), and its p. What a block says is not known here: the contracts hold for every test of blocks.
+// `rows`, its planes at cell k * (room * plane) of `kept`, and cell k * 21 + at of `seen` has the block's members and its p, or nothing.
+// What a block says is not known here: the contracts hold for every test of blocks.
 #![tactic(auto)]
 
-ghost use Rattle.std.specs.Prelude.{true, List, ◌≡◌, ℕ, suc, ◌+◌, ◌-◌, ◌*◌, ◌≤◌, ◌<◌, length};
-ghost use Rattle.remembering.specs.Copies.{Equal, EqualPlanes, Spans, SpansPlanes, Copied, CopiedPlanes};
-ghost use Rattle.remembering.specs.Fits.{Placed, Fits, Held, Put, Noted};
-ghost use Rattle.remembering.specs.Memory.{Same, slot_row, slot_stack, levels_most, cell_of, Saying, Memory};
+ghost use Rattle.std.specs.Prelude.{true, IfSome, List, ◌≡◌, ℕ, suc, ◌+◌, ◌*◌, ◌≤◌, ◌<◌, length};
+ghost use Rattle.remembering.specs.Copies.{EqualPlanes, SpansPlanes, CopiedPlanes};
+ghost use Rattle.remembering.specs.Memory.{levels_most, cell_of, Saying};
+ghost use Rattle.remembering.specs.Slots.{PlacedIn, FitsIn, SameBlock, HasBlock, HeldIn, PutIn, SameAs, MemoryIn, SameSizes};
 
-// The most levels: a slot has so many counts.
-const LEVELS: usize = 21;
+// The most levels: a slot has so many cells of `seen`.
+pub const LEVELS: usize = 21;
 
-// Bytes from..to of one row are those of the other, which begins at base.
-fn equal_bytes(row: &[u8], rows: &[u8], from: usize, to: usize, base: usize) -> bool
-    requires { Spans from to base (length row.now) (length rows.now) }
-    ensures { result ≡ true → Equal from to base row.now rows.now }
-{
-    let mut i = from;
-    while i < to {
-        if row[i] != rows[base + i] {
-            return false;
-        }
-        i += 1;
-    }
-    true
+// What is known of a block that is remembered: its members, and how many planes it has.
+#[derive(Clone, Copy)]
+pub struct Seen {
+    pub members: u32,
+    pub planes: u16,
 }
 
-// The same of cells of 32 bits.
-fn equal_level(stack: &[u32], kept: &[u32], from: usize, to: usize, base: usize) -> bool
-    requires { Spans from to base (length stack.now) (length kept.now) }
-    ensures { result ≡ true → Equal from to base stack.now kept.now }
-{
-    let mut i = from;
-    while i < to {
-        if stack[i] != kept[base + i] {
-            return false;
-        }
-        i += 1;
-    }
-    true
+// A block of a level: its states, the number of its planes, how wide its marks and its planes are, and the row and the stack where it lies,
+// which have so many cells and room for so many planes.
+#[derive(Clone, Copy)]
+pub struct Block<'a> {
+    pub from: u16,
+    pub to: u16,
+    pub p: u16,
+    pub wide: u16,
+    pub plane: u16,
+    pub room: u16,
+    pub cells: u16,
+    pub row: &'a [u8],
+    pub stack: &'a [u32],
 }
 
-// The same of the cells from..to of each of the first p planes.
+// The slots, so many, and whose turn it is at each level.
+#[derive(Drop)]
+pub struct Slots<'a> {
+    pub count: u16,
+    pub rows: &'a mut [u8],
+    pub kept: &'a mut [u32],
+    pub seen: &'a mut [Option<Seen>],
+    pub turn: &'a mut [u8],
+}
+
+// The cells from..to of each of the first p planes are those of the other list, which begins at base.
 fn equal_planes(
     stack: &[u32],
     kept: &[u32],
@@ -56,42 +58,16 @@ fn equal_planes(
     requires { SpansPlanes from to plane p base (length stack.now) (length kept.now) }
     ensures { result ≡ true → EqualPlanes from to plane p base stack.now kept.now }
 {
-    let mut j = 0;
-    while j < p {
-        let start = j * plane;
-        if !equal_level(stack, kept, start + from, start + to, base) {
+    for j in 0..p {
+        let (first, last) = (j * plane + from, j * plane + to);
+        if stack[first..last] != kept[base + first..base + last] {
             return false;
         }
-        j += 1;
     }
     true
 }
 
-// Bytes from..to of a row become those of the other, which begins at base.
-fn copy_bytes(row: &[u8], rows: &mut [u8], from: usize, to: usize, base: usize)
-    requires { Spans from to base (length row.now) (length rows.old) }
-    ensures { Copied from to base row.now rows.old rows.new }
-{
-    let mut i = from;
-    while i < to {
-        rows[base + i] = row[i];
-        i += 1;
-    }
-}
-
-// The same of cells of 32 bits.
-fn copy_level(stack: &[u32], kept: &mut [u32], from: usize, to: usize, base: usize)
-    requires { Spans from to base (length stack.now) (length kept.old) }
-    ensures { Copied from to base stack.now kept.old kept.new }
-{
-    let mut i = from;
-    while i < to {
-        kept[base + i] = stack[i];
-        i += 1;
-    }
-}
-
-// The same of the cells from..to of each of the first p planes.
+// The cells from..to of each of the first p planes become those of the other list, which begins at base.
 fn copy_planes(
     stack: &[u32],
     kept: &mut [u32],
@@ -104,248 +80,122 @@ fn copy_planes(
     requires { SpansPlanes from to plane p base (length stack.now) (length kept.old) }
     ensures { CopiedPlanes from to plane p base stack.now kept.old kept.new }
 {
-    let mut done = 0;
-    while done < p {
-        let start = done * plane;
-        copy_level(stack, kept, start + from, start + to, base);
-        done += 1;
+    for done in 0..p {
+        let (first, last) = (done * plane + from, done * plane + to);
+        kept[base + first..base + last].copy_from_slice(&stack[first..last]);
     }
 }
 
-// Slot k's block is this one: the same bytes, then the same marks.
-fn same_block(
-    from: u16,
-    to: u16,
-    p: u16,
-    row: &[u8],
-    stack: &[u32],
-    wide: u16,
-    plane: u16,
-    room: u16,
-    cells: u16,
-    k: u16,
-    kept: &[u32],
-    rows: &[u8],
-) -> bool
-    requires { Placed from to p wide plane room cells k row.now stack.now kept.now rows.now }
-    ensures { result ≡ true → Same wide plane from to p row.now stack.now (slot_row cells k rows.now) (slot_stack room plane k kept.now) }
+// Slot k's cell of `seen` for the level.
+fn cell(k: u16, at: u8) -> usize
+    ensures { result ≡ cell_of k at }
 {
-    let here = (k as usize) * (cells as usize);
-    if !equal_bytes(row, rows, from as usize, to as usize, here) {
-        return false;
-    }
-    let size = (room as usize) * (plane as usize);
-    equal_planes(
-        stack,
-        kept,
-        (from as usize) * (wide as usize),
-        (to as usize) * (wide as usize),
-        plane as usize,
-        p as usize,
-        (k as usize) * size,
-    )
+    usize::from(k) * LEVELS + usize::from(at)
 }
 
-// Slot k gets this block.
-fn copy_block(
-    from: u16,
-    to: u16,
-    p: u16,
-    row: &[u8],
-    stack: &[u32],
-    wide: u16,
-    plane: u16,
-    room: u16,
-    cells: u16,
-    k: u16,
-    kept: &mut [u32],
-    rows: &mut [u8],
-)
-    requires { Placed from to p wide plane room cells k row.now stack.now kept.old rows.old }
-    ensures { Put from to p wide plane room cells k row.now stack.now kept.old rows.old kept.new rows.new }
-{
-    let here = (k as usize) * (cells as usize);
-    copy_bytes(row, rows, from as usize, to as usize, here);
-    let size = (room as usize) * (plane as usize);
-    copy_planes(
-        stack,
-        kept,
-        (from as usize) * (wide as usize),
-        (to as usize) * (wide as usize),
-        plane as usize,
-        p as usize,
-        (k as usize) * size,
-    );
-}
-
-// Slot k's count for the level, if its block is this one; else 0.
-fn recall(
-    at: u8,
-    from: u16,
-    to: u16,
-    p: u16,
-    row: &[u8],
-    stack: &[u32],
-    wide: u16,
-    plane: u16,
-    room: u16,
-    cells: u16,
-    k: u16,
-    kept: &[u32],
-    rows: &[u8],
-    counts: &[u32],
-    sizes: &[u8],
-) -> u32
-    requires { Placed from to p wide plane room cells k row.now stack.now kept.now rows.now × (cell_of k at < length counts.now) × (cell_of k at < length sizes.now) }
-    ensures { (result ≡ 0 → ⊥) → Held at from to p wide plane room cells k row.now stack.now kept.now rows.now counts.now sizes.now result }
-{
-    let cell = (k as usize) * LEVELS + (at as usize);
-    if (sizes[cell] as u16) != p {
-        return 0;
-    }
-    if counts[cell] == 0 {
-        return 0;
-    }
-    if !same_block(
-        from, to, p, row, stack, wide, plane, room, cells, k, kept, rows,
-    ) {
-        return 0;
-    }
-    counts[cell]
-}
-
-// 0, or the count of a block that is remembered for the level and is this one.
-pub fn find(
-    at: u8,
-    from: u16,
-    to: u16,
-    p: u16,
-    row: &[u8],
-    stack: &[u32],
-    wide: u16,
-    plane: u16,
-    room: u16,
-    cells: u16,
-    slots: u16,
-    kept: &[u32],
-    rows: &[u8],
-    counts: &[u32],
-    sizes: &[u8],
-) -> u32
-    requires { Fits at from to p wide plane room cells slots row.now stack.now kept.now rows.now counts.now sizes.now }
-    ensures { (low : ℕ → ℕ) (good : Saying) → from ≡ low at → to ≡ low (suc at)
-        → Memory wide plane room cells slots low good counts.now sizes.now rows.now kept.now
-        → (result ≡ 0 → ⊥) → good at p row.now stack.now (result - 1) ≡ true }
-{
-    let mut k: u16 = 0;
-    while k < slots {
-        let count = recall(
-            at, from, to, p, row, stack, wide, plane, room, cells, k, kept, rows, counts, sizes,
-        );
-        if count != 0 {
-            return count;
+impl Slots<'_> {
+    // Slot k's block is this one: the same bytes, then the same marks.
+    fn has(&self, block: &Block<'_>, k: u16) -> bool
+        requires { PlacedIn self.now block.now k }
+        ensures { result ≡ true → HasBlock self.now block.now k }
+    {
+        let (from, to) = (block.from as usize, block.to as usize);
+        let here = k as usize * block.cells as usize;
+        if block.row[from..to] != self.rows[here + from..here + to] {
+            return false;
         }
-        k += 1;
+        let (wide, plane) = (block.wide as usize, block.plane as usize);
+        let base = k as usize * (block.room as usize * plane);
+        equal_planes(
+            block.stack,
+            self.kept,
+            from * wide,
+            to * wide,
+            plane,
+            block.p as usize,
+            base,
+        )
     }
-    0
-}
 
-// Slot k gets this block for the level, with its m members.
-fn note(
-    at: u8,
-    from: u16,
-    to: u16,
-    p: u16,
-    row: &[u8],
-    stack: &[u32],
-    wide: u16,
-    plane: u16,
-    room: u16,
-    cells: u16,
-    k: u16,
-    m: u32,
-    kept: &mut [u32],
-    rows: &mut [u8],
-    counts: &mut [u32],
-    sizes: &mut [u8],
-)
-    requires { Placed from to p wide plane room cells k row.now stack.now kept.old rows.old × (cell_of k at < length counts.old) × (cell_of k at < length sizes.old) × (p < 256) × (m < 4294967295) }
-    ensures { Noted at from to p wide plane room cells k m row.now stack.now kept.old rows.old counts.old sizes.old kept.new rows.new counts.new sizes.new }
-{
-    copy_block(
-        from, to, p, row, stack, wide, plane, room, cells, k, kept, rows,
-    );
-    let cell = (k as usize) * LEVELS + (at as usize);
-    counts[cell] = m + 1;
-    sizes[cell] = p as u8;
-}
-
-// k, if there is a slot k; else 0.
-fn within(k: u16, slots: u16) -> u16
-    requires { 0 < slots }
-    ensures { result < slots }
-{
-    if k < slots { k } else { 0 }
-}
-
-// The slot after slot k, or 0 after the last.
-fn after(k: u16, slots: u16) -> u8
-    requires { k < slots }
-{
-    if 255 <= k {
-        return 0;
+    // Slot k gets this block.
+    fn put(&mut self, block: &Block<'_>, k: u16)
+        requires { PlacedIn self.old block.now k }
+        ensures { PutIn self.old self.new block.now k }
+    {
+        let (from, to) = (block.from as usize, block.to as usize);
+        let here = k as usize * block.cells as usize;
+        self.rows[here + from..here + to].copy_from_slice(&block.row[from..to]);
+        let (wide, plane) = (block.wide as usize, block.plane as usize);
+        let base = k as usize * (block.room as usize * plane);
+        copy_planes(
+            block.stack,
+            self.kept,
+            from * wide,
+            to * wide,
+            plane,
+            block.p as usize,
+            base,
+        );
     }
-    if k + 1 < slots { (k + 1) as u8 } else { 0 }
-}
 
-// The slot whose turn it is at the level; the next one's turn comes then.
-fn next_slot(turn: &mut [u8], at: u8, slots: u16) -> u16
-    requires { (at < length turn.old) × (0 < slots) }
-    ensures { result < slots }
-{
-    let k = within(turn[at as usize] as u16, slots);
-    turn[at as usize] = after(k, slots);
-    k
-}
+    // The members of the block that slot k has for the level, if that is this one.
+    fn recall(&self, at: u8, block: &Block<'_>, k: u16) -> Option<u32>
+        requires { PlacedIn self.now block.now k × (cell_of k at < length self.now.seen.now) }
+        ensures { IfSome result (λ m. HeldIn self.now block.now k at m) }
+    {
+        let seen = self.seen[cell(k, at)]?;
+        if seen.planes != block.p {
+            return None;
+        }
+        if !self.has(block, k) {
+            return None;
+        }
+        Some(seen.members)
+    }
 
-// The block of a level is remembered, with its m members, in the slot whose turn it is. Nothing is done where there is no slot, or where m and 1
-// or p do not fit their cells.
-pub fn keep(
-    at: u8,
-    from: u16,
-    to: u16,
-    p: u16,
-    row: &[u8],
-    stack: &[u32],
-    wide: u16,
-    plane: u16,
-    room: u16,
-    cells: u16,
-    slots: u16,
-    m: u32,
-    kept: &mut [u32],
-    rows: &mut [u8],
-    counts: &mut [u32],
-    sizes: &mut [u8],
-    turn: &mut [u8],
-)
-    requires { Fits at from to p wide plane room cells slots row.now stack.now kept.old rows.old counts.old sizes.old × (levels_most ≤ length turn.old) }
-    ensures { (low : ℕ → ℕ) (good : Saying) → ((i : ℕ) → i < levels_most → low i ≤ low (suc i)) → from ≡ low at → to ≡ low (suc at)
-        → Memory wide plane room cells slots low good counts.old sizes.old rows.old kept.old
-        → ((row' stack' : List ℕ) → Same wide plane from to p row.now stack.now row' stack' → good at p row' stack' m ≡ true)
-        → Memory wide plane room cells slots low good counts.new sizes.new rows.new kept.new }
-{
-    if slots == 0 {
-        return;
+    // The members of a block that is remembered for the level and is this one.
+    pub fn find(&self, at: u8, block: &Block<'_>) -> Option<u32>
+        requires { FitsIn self.now block.now at }
+        ensures { (low : ℕ → ℕ) (good : Saying) → block.now.from ≡ low at → block.now.to ≡ low (suc at)
+            → MemoryIn self.now block.now low good
+            → IfSome result (λ m. good at block.now.p block.now.row.now block.now.stack.now m ≡ true) }
+    {
+        for k in 0..self.count {
+            if let Some(m) = self.recall(at, block, k) {
+                return Some(m);
+            }
+        }
+        None
     }
-    if p > 255 {
-        return;
+
+    // The slot whose turn it is at the level; the next one's turn comes then.
+    fn next(&mut self, at: u8) -> u16
+        requires { (at < length self.old.turn.now) × (0 < self.old.count) }
+        ensures slot { result < self.old.count }
+        ensures others { SameAs self.old self.new }
+    {
+        let k = u16::from(self.turn[usize::from(at)]) % self.count;
+        self.turn[usize::from(at)] = u8::try_from((k + 1) % self.count).unwrap_or(0);
+        k
     }
-    if m == u32::MAX {
-        return;
+
+    // The block of a level is remembered, with its members, in the slot whose turn it is. Nothing is done where there is no slot.
+    pub fn keep(&mut self, at: u8, block: &Block<'_>, members: u32)
+        requires { FitsIn self.old block.now at × (levels_most ≤ length self.old.turn.now) }
+        ensures sizes { SameSizes self.old self.new }
+        ensures memory { (low : ℕ → ℕ) (good : Saying) → ((i : ℕ) → i < levels_most → low i ≤ low (suc i)) → block.now.from ≡ low at → block.now.to ≡ low (suc at)
+            → MemoryIn self.old block.now low good
+            → ((row' stack' : List ℕ) → SameBlock block.now row' stack' → good at block.now.p row' stack' members ≡ true)
+            → MemoryIn self.new block.now low good }
+    {
+        if self.count == 0 {
+            return;
+        }
+        let k = self.next(at);
+        self.put(block, k);
+        self.seen[cell(k, at)] = Some(Seen {
+            members,
+            planes: block.p,
+        });
     }
-    let k = next_slot(turn, at, slots);
-    note(
-        at, from, to, p, row, stack, wide, plane, room, cells, k, m, kept, rows, counts, sizes,
-    );
 }

@@ -1,5 +1,5 @@
 -- The definitions' roles, sides and keys as the code has them.
-use Rattle.std.specs.Prelude.{cond, ℕ, ◌-◌, ◌%◌, eqb}
+use Rattle.std.specs.Prelude.{ℕ}
 use Rattle.gates.specs.Gate as gate
 use Rattle.gates.specs.Key as key
 use Rattle.gates.specs.Key.{stored}
@@ -10,6 +10,10 @@ use Rattle.roles.specs.declared.Role.{Role}
 use Rattle.roles.specs.declared.Role.TheVariants as as-role
 use Rattle.roles.specs.declared.Side.{Side}
 use Rattle.roles.specs.declared.Side.TheVariants as as-side
+use Rattle.roles.specs.declared.Single.{Single}
+use Rattle.roles.specs.declared.Single.TheVariants as as-single
+use Rattle.roles.specs.declared.Key.{Key}
+use Rattle.roles.specs.declared.Key.TheVariants as as-key
 use Rattle.roles.specs.declared.Kids.{Kids}
 
 abbrev pub role_from : def.Role → Role
@@ -30,6 +34,12 @@ abbrev pub side_is : Side → key.Side
 side_is as-side.L = key.L
 side_is as-side.R = key.R
 
+abbrev pub key_is : Key → key.Key
+key_is (as-key.One as-single.Plain q) = key.plain q
+key_is (as-key.One as-single.Inside q) = key.inside q
+key_is (as-key.One (as-single.Shifted j) q) = key.shifted j q
+key_is (as-key.Pair s q p) = key.pair q p (side_is s)
+
 -- the role of a gate with no control, and of a controlled one
 abbrev pub role_alone : gate.Kind → ℕ → ℕ → def.Role
 role_alone k t level = def.role (gate.plain k t) level
@@ -41,13 +51,21 @@ role_under c k t level = def.role (gate.controlled c k t) level
 abbrev pub kids_of : Two → Kids
 kids_of p = record { left = stored p.0; right = stored p.1 }
 
--- the shift in a tag of stored keys
-abbrev pub shift_in : ℕ → ℕ
-shift_in tag = (tag - 4) % 256
+-- the j of a shifted state, or 0
+abbrev pub shift_in : Single → ℕ
+shift_in as-single.Plain = 0
+shift_in as-single.Inside = 0
+shift_in (as-single.Shifted j) = j
 
--- the children of a state that is no pair, by the tag of its stored key
-abbrev pub single_kids : def.Role → ℕ → ℕ × ℕ → Two
-single_kids o tag p =
-    cond (eqb tag 0) (def.plain_kids o p)
-    (cond (eqb tag 1) (def.inside_kids o p)
-    (key.shifted (shift_in tag) p.0, key.shifted (shift_in tag) p.1))
+-- the children of a state that is no pair
+abbrev pub single_kids : def.Role → Single → ℕ × ℕ → Two
+single_kids o as-single.Plain p = def.plain_kids o p
+single_kids o as-single.Inside p = def.inside_kids o p
+single_kids o (as-single.Shifted j) p = (key.shifted j p.0, key.shifted j p.1)
+
+-- a key whose old states all have a property
+abbrev pub OfStates : (ℕ → Type 0) → key.Key → Type 0
+OfStates P (key.plain q) = P q
+OfStates P (key.shifted j q) = P q
+OfStates P (key.inside q) = P q
+OfStates P (key.pair q p s) = P q × P p

@@ -1,26 +1,16 @@
-// Document 01, "What each gate builds": what a gate does at a level, and the stored keys of a record's two children. All of it by value; no
-// function has a `requires`.
+// Document 01, "What each gate builds": what a gate does at a level, and the stored keys of a record's two children. All of it by
+// value.
 #![tactic(auto)]
 
-ghost use Rattle.std.specs.Prelude.{◌≡◌};
+ghost use Rattle.std.specs.Prelude.{◌≡◌, ◌<◌};
 ghost use Rattle.circuits.specs.Answer.{kind_is, gate_is};
-ghost use Rattle.gates.specs.Key.{packed, stored, turned, shifted, pair};
+ghost use Rattle.gates.specs.Key.{packed, stored, turned};
 ghost use Rattle.gates.specs.Matrix.{back};
 ghost use Rattle.gates.specs.Roles.{role, kind_kids, plain_kids, inside_kids, cross_kids, both_kids, pair_kids};
-ghost use Rattle.roles.specs.Kept.{role_from, role_is, role_alone, role_under, side_is, kids_of, shift_in, single_kids};
+ghost use Rattle.stepwise.specs.Code.{tag_in, unstored};
+ghost use Rattle.roles.specs.Kept.{role_from, role_is, role_alone, role_under, side_is, key_is, kids_of, shift_in, single_kids};
 
 use circuits::{Gate, Kind};
-
-// The tags of stored keys; shifted j has the tag SHIFTED + j.
-pub const PLAIN: u16 = 0;
-
-pub const INSIDE: u16 = 1;
-
-pub const PAIR_L: u16 = 2;
-
-pub const PAIR_R: u16 = 3;
-
-pub const SHIFTED: u16 = 4;
 
 // What happens at a level: nothing; the right child goes inside; a pair's children change partners; the kind acts on a plain state, or on a
 // state inside.
@@ -47,11 +37,81 @@ pub struct Kids {
     pub right: u64,
 }
 
-// A key as it is stored: the tag and both old numbers, each in a place of its own.
+// What a state of one old state is: that state plain, inside a control, or shifted j.
+#[derive(Clone, Copy)]
+pub enum Single {
+    Plain,
+    Inside,
+    Shifted(u8),
+}
+
+impl Single {
+    // The j of a shifted state, or 0.
+    pub fn shift(self) -> u8
+        ensures { result ≡ shift_in self }
+    {
+        match self {
+            Single::Shifted(j) => j,
+            _ => 0,
+        }
+    }
+}
+
+// A state of a gate's result, by what it is of the old set: of one old state, or of two that are a pair on a side.
+#[derive(Clone, Copy)]
+pub enum Key {
+    One(Single, u16),
+    Pair(Side, u16, u16),
+}
+
+// The tags of stored keys; shifted j has the tag SHIFTED + j. Numbers, since a stored key is one number of 64 bits in a lent row.
+const PLAIN: u16 = 0;
+
+const INSIDE: u16 = 1;
+
+const PAIR_L: u16 = 2;
+
+const PAIR_R: u16 = 3;
+
+const SHIFTED: u16 = 4;
+
+// The tag and both old numbers, each in a place of its own.
 pub fn pack(tag: u16, q: u16, p: u16) -> u64
     ensures { result ≡ packed tag q p }
 {
-    ((tag as u64) * 65536 + q as u64) * 65536 + p as u64
+    (u64::from(tag) * 65536 + u64::from(q)) * 65536 + u64::from(p)
+}
+
+impl Key {
+    // The key as it is stored.
+    pub fn stored(self) -> u64
+        ensures { result ≡ stored (key_is self) }
+    {
+        match self {
+            Key::One(Single::Plain, q) => pack(PLAIN, q, 0),
+            Key::One(Single::Inside, q) => pack(INSIDE, q, 0),
+            Key::One(Single::Shifted(j), q) => pack(SHIFTED + u16::from(j), q, 0),
+            Key::Pair(Side::L, q, p) => pack(PAIR_L, q, p),
+            Key::Pair(Side::R, q, p) => pack(PAIR_R, q, p),
+        }
+    }
+
+    // The key that a number stores, whose tag is one that the code makes.
+    pub fn unstored(x: u64) -> Key
+        requires { tag_in x < 260 }
+        ensures { key_is result ≡ unstored x }
+    {
+        let tag = x / 65536 / 65536;
+        let q = (x / 65536 % 65536) as u16;
+        let p = (x % 65536) as u16;
+        match tag as u16 {
+            PLAIN => Key::One(Single::Plain, q),
+            INSIDE => Key::One(Single::Inside, q),
+            PAIR_L => Key::Pair(Side::L, q, p),
+            PAIR_R => Key::Pair(Side::R, q, p),
+            shifted => Key::One(Single::Shifted((shifted - SHIFTED) as u8), q),
+        }
+    }
 }
 
 // The role of a controlled gate: a control above the target begins, one below it crosses.
@@ -80,10 +140,7 @@ fn role_controlled(c: u8, k: Kind, t: u8, level: u8) -> Role
 fn role_alone(k: Kind, t: u8, level: u8) -> Role
     ensures { result ≡ role_from (role_alone (kind_is k) t level) }
 {
-    if level == t {
-        return Role::Act(k);
-    }
-    Role::Pass
+    if level == t { Role::Act(k) } else { Role::Pass }
 }
 
 // What a gate does at a level.
@@ -106,21 +163,24 @@ fn backwards(j: u8) -> u8
     0
 }
 
-// A state shifted j.
-fn shifted_key(j: u8, q: u16) -> u64
-    ensures { result ≡ stored (shifted j q) }
-{
-    pack(SHIFTED + j as u16, q, 0)
-}
-
 // A state shifted j, or plain where j is 0.
-fn turned_key(j: u8, q: u16) -> u64
-    ensures { result ≡ stored (turned j q) }
+fn turned(j: u8, q: u16) -> Key
+    ensures { key_is result ≡ turned j q }
 {
     if j == 0 {
-        return pack(PLAIN, q, 0);
+        return Key::One(Single::Plain, q);
     }
-    shifted_key(j, q)
+    Key::One(Single::Shifted(j), q)
+}
+
+// Both children of one old state's record.
+pub fn both(how: Single, l: u16, r: u16) -> Kids
+    ensures { result ≡ kids_of (key_is (Key.One how l), key_is (Key.One how r)) }
+{
+    Kids {
+        left: Key::One(how, l).stored(),
+        right: Key::One(how, r).stored(),
+    }
 }
 
 // "X: (r, l). Y: (r shifted 6, l shifted 2). Phase j: (l, r shifted j). H: (pair l r L, pair l r R)."
@@ -129,28 +189,18 @@ fn kind_kids(k: Kind, l: u16, r: u16) -> Kids
 {
     match k {
         Kind::Phase(j) => Kids {
-            left: pack(PLAIN, l, 0),
-            right: shifted_key(j, r),
+            left: Key::One(Single::Plain, l).stored(),
+            right: Key::One(Single::Shifted(j), r).stored(),
         },
         Kind::Flip(j) => Kids {
-            left: turned_key(backwards(j), r),
-            right: turned_key(j, l),
+            left: turned(backwards(j), r).stored(),
+            right: turned(j, l).stored(),
         },
         Kind::H => Kids {
-            left: pack(PAIR_L, l, r),
-            right: pack(PAIR_R, l, r),
+            left: Key::Pair(Side::L, l, r).stored(),
+            right: Key::Pair(Side::R, l, r).stored(),
         },
     }
-}
-
-// The shift in a tag: what is over SHIFTED, which fits a byte for every tag that the code makes.
-fn shift_of(tag: u16) -> u8
-    ensures { result ≡ shift_in tag }
-{
-    if tag < SHIFTED {
-        return 0;
-    }
-    ((tag - SHIFTED) % 256) as u8
 }
 
 // The children of a plain state.
@@ -160,13 +210,10 @@ pub fn plain_kids(o: Role, l: u16, r: u16) -> Kids
     match o {
         Role::Act(k) => kind_kids(k, l, r),
         Role::Begin => Kids {
-            left: pack(PLAIN, l, 0),
-            right: pack(INSIDE, r, 0),
+            left: Key::One(Single::Plain, l).stored(),
+            right: Key::One(Single::Inside, r).stored(),
         },
-        _ => Kids {
-            left: pack(PLAIN, l, 0),
-            right: pack(PLAIN, r, 0),
-        },
+        _ => both(Single::Plain, l, r),
     }
 }
 
@@ -176,43 +223,18 @@ pub fn inside_kids(o: Role, l: u16, r: u16) -> Kids
 {
     match o {
         Role::Within(k) => kind_kids(k, l, r),
-        _ => Kids {
-            left: pack(INSIDE, l, 0),
-            right: pack(INSIDE, r, 0),
-        },
+        _ => both(Single::Inside, l, r),
     }
 }
 
-// The children of a state shifted j.
-pub fn shifted_kids(j: u8, l: u16, r: u16) -> Kids
-    ensures { result ≡ kids_of (shifted j l, shifted j r) }
+// The children of a state that is no pair.
+pub fn single_kids(o: Role, how: Single, l: u16, r: u16) -> Kids
+    ensures { result ≡ kids_of (single_kids (role_is o) how (l, r)) }
 {
-    Kids {
-        left: shifted_key(j, l),
-        right: shifted_key(j, r),
-    }
-}
-
-// The children of a state that is no pair, by its stored key's tag: plain, inside, or shifted by what is over SHIFTED.
-pub fn single_kids(o: Role, tag: u16, l: u16, r: u16) -> Kids
-    ensures { result ≡ kids_of (single_kids (role_is o) tag (l, r)) }
-{
-    if tag == PLAIN {
-        return plain_kids(o, l, r);
-    }
-    if tag == INSIDE {
-        return inside_kids(o, l, r);
-    }
-    shifted_kids(shift_of(tag), l, r)
-}
-
-// A pair on a side.
-fn pair_key(s: Side, q: u16, p: u16) -> u64
-    ensures { result ≡ stored (pair q p (side_is s)) }
-{
-    match s {
-        Side::L => pack(PAIR_L, q, p),
-        Side::R => pack(PAIR_R, q, p),
+    match how {
+        Single::Plain => plain_kids(o, l, r),
+        Single::Inside => inside_kids(o, l, r),
+        Single::Shifted(_) => both(how, l, r),
     }
 }
 
@@ -220,16 +242,11 @@ fn pair_key(s: Side, q: u16, p: u16) -> u64
 fn cross_kids(s: Side, q0: u16, q1: u16, p0: u16, p1: u16) -> Kids
     ensures { result ≡ kids_of (cross_kids (side_is s) (q0, q1) (p0, p1)) }
 {
-    match s {
-        Side::L => Kids {
-            left: pack(PLAIN, q0, 0),
-            right: pack(PLAIN, p1, 0),
-        },
-        Side::R => Kids {
-            left: pack(PLAIN, p0, 0),
-            right: pack(PLAIN, q1, 0),
-        },
-    }
+    let (l, r) = match s {
+        Side::L => (q0, p1),
+        Side::R => (p0, q1),
+    };
+    both(Single::Plain, l, r)
 }
 
 // The two left children meet, and the two right ones.
@@ -237,8 +254,8 @@ fn both_kids(s: Side, q0: u16, q1: u16, p0: u16, p1: u16) -> Kids
     ensures { result ≡ kids_of (both_kids (side_is s) (q0, q1) (p0, p1)) }
 {
     Kids {
-        left: pair_key(s, q0, p0),
-        right: pair_key(s, q1, p1),
+        left: Key::Pair(s, q0, p0).stored(),
+        right: Key::Pair(s, q1, p1).stored(),
     }
 }
 

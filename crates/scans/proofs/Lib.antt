@@ -1,1 +1,1 @@
-pub mod ScanTurns
+pub mod ScanLaws

@@ -1,3 +1,3 @@
-pub mod AnswerLaws
-pub mod BodyLaws
+pub mod Parts
+pub mod Body
 pub mod Taken

@@ -1,14 +1,9 @@
--- The code's bounds, header and answer, and what of the definitions they are.
+-- The code's bounds and header, and what of the definitions they are.
 use Rattle.std.specs.Prelude.{◌≡◌, List, ℕ, length}
-use Rattle.automata.specs.Sets.{QSet}
-use Rattle.stored.specs.Refusal.{Judged, refused, good}
 use Rattle.stored.specs.Form as stored
 use Rattle.stored.specs.Rules as rules
-use Rattle.refusals.specs.Refused.{refused_by}
 use Rattle.setfile.specs.declared.Form.{Form}
 use Rattle.setfile.specs.declared.Bounds.{Bounds}
-use Rattle.setfile.specs.declared.SetAnswer.{SetAnswer}
-use Rattle.setfile.specs.declared.SetAnswer.TheVariants.{Good, Bad}
 
 -- "At most 1,024 states (128 in an end set), 2,048 inner, 1,024 leaves"
 abbrev pub bounds_of : Bounds → rules.Bounds
@@ -26,8 +21,3 @@ form_read s = let F = stored.form_of s in record { n = F.n; k = F.k; states = F.
 pub record Whole (s : List ℕ) (f : Form) : Type 0 where
   pub is : form_in f ≡ stored.form_of s
   pub size : length s ≡ stored.file_size (form_in f)
-
--- a judged set as the code answers it: the refusal, or the header of a set that is good
-abbrev pub answer_of : Judged QSet → Form → SetAnswer
-answer_of (refused r) f = Bad (refused_by r)
-answer_of (good Q) f = Good f

@@ -1,37 +1,42 @@
 // Document 01, replies 14 to 16: what building left of a gate's set is judged, "gate by gate 15, 14, 16 .. (earliest first)", and the set so far
-// after it. Each test is made once and one function picks the number, so their order stands in one place.
+// after it.
 #![tactic(auto)]
 
-ghost use Rattle.std.specs.Prelude.{◌≡◌, true, ◌+◌, ◌<◌, leb};
+ghost use Rattle.std.specs.Prelude.{◌≡◌, true, ◌+◌, ◌<◌, leb, length, Some};
 ghost use Rattle.amplitude.specs.Leaf.{k_most};
 ghost use Rattle.stored.specs.Refusal.{refusal, circuit_source};
 ghost use Rattle.gates.specs.Build.{growth};
 ghost use Rattle.circuits.specs.Answer.{gate_is, kind_is};
-ghost use Rattle.refusals.specs.Refused.{refused_by};
+ghost use Rattle.refusals.specs.Refused.{number_of, told, judged};
+ghost use Rattle.tables.specs.Slices.{lent_is, with_first};
 ghost use Rattle.tables.specs.Unpack.{Begun};
-ghost use Rattle.settling.specs.Result.{kind_growth, made_of, picked, next_of};
+ghost use Rattle.building.specs.declared.Outcome.{Outcome};
+ghost use Rattle.settling.specs.Result.{kind_growth, made_of, picked, next_image};
 ghost use Rattle.settling.specs.Standing.{Indexable};
 
 use building::Outcome;
 use circuits::{Gate, Kind};
-use refusals::{CIRCUIT, Refusal};
+use refusals::{Reason, Refusal, Source};
 use setfile::{Form, K_MOST};
-use tables::fill_first;
+use tables::TableMut;
 
-// What a gate's result is: a set in the new slices, with its numbers, or a refusal.
+// The image so far: the numbers of the set, and whether the second table holds it.
 #[derive(Clone, Copy)]
-pub enum GateResult {
-    Made(Form),
-    Refused(Refusal),
-}
-
-// The set so far: its numbers, and whether the second table holds it; or, where it is not ok, the refusal.
-#[derive(Clone, Copy)]
-pub struct Carry {
+pub struct Image {
     pub form: Form,
     pub second: bool,
-    pub ok: bool,
-    pub refusal: Refusal,
+}
+
+impl Image {
+    // The image after a gate: in the other table.
+    pub fn next(self, form: Form) -> Image
+        ensures { result ≡ next_image self form }
+    {
+        Image {
+            form,
+            second: !self.second,
+        }
+    }
 }
 
 // By how much a kind of one qubit lets k grow.
@@ -39,9 +44,8 @@ fn kind_growth(k: Kind) -> u8
     ensures { result ≡ kind_growth (kind_is k) }
 {
     match k {
-        Kind::Phase(_) => 0,
-        Kind::Flip(_) => 0,
         Kind::H => 1,
+        _ => 0,
     }
 }
 
@@ -56,58 +60,43 @@ pub fn growth_of(g: Gate) -> u8
 }
 
 // A refusal whose source is the circuit.
-fn refused(number: u8, place: u32) -> GateResult
-    ensures { result ≡ GateResult.Refused (refused_by (refusal number circuit_source place)) }
+fn refused(reason: Reason, place: u32) -> Refusal
+    ensures { told result ≡ refusal (number_of reason) circuit_source place }
 {
-    GateResult::Refused(Refusal {
-        number,
-        source: CIRCUIT,
+    Refusal {
+        reason,
+        source: Source::Circuit,
         place,
-    })
+    }
 }
 
-// "gate by gate 15, 14, 16": the first of them that k, the sizes or the leaves are refused by, or the set that was made.
-fn judge(k: bool, sizes: bool, leaves: bool, place: u32, made: Form) -> GateResult
-    ensures { result ≡ picked k sizes leaves place made }
-{
-    if !k {
-        return refused(15, place);
-    }
-    if !sizes {
-        return refused(14, place);
-    }
-    if !leaves {
-        return refused(16, place);
-    }
-    GateResult::Made(made)
-}
-
-// The row where each state's records begin, of a set that was made; else nothing is done.
-fn index_rows(rows: &[u16], made: Form, stands: bool, first: &mut [u16])
-    requires { stands ≡ true → Indexable rows.now first.old made }
-    ensures { stands ≡ true → Begun rows.now (made.inner + made.leaves) (made.states + 1) first.new }
-{
-    if !stands {
-        return;
-    }
-    fill_first(rows, made.inner + made.leaves, made.states, first);
-}
-
-// What building left is judged; where it is a set, the row where each state's records begin is found.
+// What building left in the new table is judged: "gate by gate 15, 14, 16". Where it is a set, the row where each state's records begin is found.
 pub fn settle(
-    rows: &[u16],
     form: Form,
     grown: u8,
     place: u32,
-    r: Outcome,
-    first: &mut [u16],
-) -> GateResult
+    built: Option<Outcome>,
+    new: &mut TableMut,
+) -> Result<Form, Refusal>
     requires grown_bound { form.k + grown < 256 }
-    requires indexable { leb (form.k + grown) k_most ≡ true → r.ok ≡ true → r.fits ≡ true → Indexable rows.now first.old (made_of form.n (form.k + grown) r) }
-    ensures value { result ≡ picked (leb (form.k + grown) k_most) r.ok r.fits place (made_of form.n (form.k + grown) r) }
-    ensures begun { leb (form.k + grown) k_most ≡ true → r.ok ≡ true → r.fits ≡ true → Begun rows.now (r.inner + r.leaves) (r.states + 1) first.new }
+    requires indexable { leb (form.k + grown) k_most ≡ true → (r : Outcome) → built ≡ Some r → r.fits ≡ true
+        → Indexable new.old.rows.now new.old.first.now (made_of form.n (form.k + grown) r) }
+    ensures value { judged result ≡ picked (leb (form.k + grown) k_most) built place form.n (form.k + grown) }
+    ensures begun { leb (form.k + grown) k_most ≡ true → (r : Outcome) → built ≡ Some r → r.fits ≡ true
+        → Begun new.old.rows.now (r.inner + r.leaves) (r.states + 1) new.new.first.now }
+    ensures others { lent_is new.new ≡ with_first (lent_is new.old) new.new.first.now }
+    ensures long { length new.new.first.now ≡ length new.old.first.now }
 {
     let k = form.k + grown;
+    if K_MOST < k {
+        return Err(refused(Reason::Scale, place));
+    }
+    let Some(r) = built else {
+        return Err(refused(Reason::Sizes, place));
+    };
+    if !r.fits {
+        return Err(refused(Reason::Coefficients, place));
+    }
     let made = Form {
         n: form.n,
         k,
@@ -115,29 +104,6 @@ pub fn settle(
         inner: r.inner,
         leaves: r.leaves,
     };
-    let small = k <= K_MOST;
-    index_rows(rows, made, small & (r.ok & r.fits), first);
-    judge(small, r.ok, r.fits, place, made)
-}
-
-// The set after a gate: in the other table, or refused.
-pub fn next_of(state: Carry, r: GateResult) -> Carry
-    ensures { result ≡ next_of state r }
-{
-    let old = state.form;
-    let none = state.refusal;
-    match r {
-        GateResult::Made(form) => Carry {
-            form,
-            second: !state.second,
-            ok: true,
-            refusal: none,
-        },
-        GateResult::Refused(refusal) => Carry {
-            form: old,
-            second: state.second,
-            ok: false,
-            refusal,
-        },
-    }
+    new.fill_first(made.inner + made.leaves, made.states);
+    Ok(made)
 }

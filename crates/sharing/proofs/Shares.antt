@@ -8,7 +8,7 @@ use Rattle.automata.specs.Choice.{has}
 use Rattle.meeting.specs.All.{all_in}
 use Rattle.meeting.proofs.AllLaws.{all_none, all_more, all_tells}
 
-and_assoc : (a b c : Bool) → (a && b) && c ≡ a && (b && c)
+pub and_assoc : (a b c : Bool) → (a && b) && c ≡ a && (b && c)
 and_assoc true b c = refl
 and_assoc false b c = refl
 

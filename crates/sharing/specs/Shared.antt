@@ -3,6 +3,7 @@ use Rattle.std.specs.Prelude.{Bool, List, ℕ, ◌+◌, ◌<◌, ◌≤◌, leng
 use Rattle.automata.specs.Choice.{has}
 use Rattle.lookup.specs.Lookup.{choices_of}
 use Rattle.meeting.specs.declared.Level.{Level}
+use Rattle.meeting.specs.declared.Sides.{Sides}
 use Rattle.meeting.specs.Met.{There}
 
 -- end state e has choice d, whatever image state meets it
@@ -20,3 +21,13 @@ pub record RowOpen (end_masks end_first : List ℕ) (wide size s start stop : �
 
 pub record LevelOpen (end_masks end_first : List ℕ) (wide size : ℕ) (l : Level) : Type 0 where
   pub each : (s e : ℕ) → l.from ≤ s → s < l.to → l.start ≤ e → e < l.stop → Open end_masks end_first wide size s e
+
+-- ---- of both tables
+abbrev pub has_choice_on : Sides → ℕ → ℕ → ℕ → Bool
+has_choice_on t d = has_choice t.end.masks.now t.end.first.now d
+
+abbrev pub RowOpenOn : Sides → ℕ → ℕ → ℕ → ℕ → Type 0
+RowOpenOn t size s start stop = RowOpen t.end.masks.now t.end.first.now t.wide size s start stop
+
+abbrev pub LevelOpenOn : Sides → ℕ → Level → Type 0
+LevelOpenOn t size l = LevelOpen t.end.masks.now t.end.first.now t.wide size l

@@ -1,20 +1,10 @@
 -- Two tables, of which one holds the set and the next gate's result goes into the other.
-use Rattle.std.specs.Prelude.{◌≡◌, Bool, true, false, cond, List, ℕ, ℤ}
+use Rattle.std.specs.Prelude.{◌≡◌, Bool, true, false, cond}
 use Rattle.automata.specs.Sets.{QSet}
 use Rattle.stored.specs.Rules.{Bounds}
 use Rattle.setfile.specs.declared.Form.{Form}
-use Rattle.standing.specs.Standing.{set_in, Stands, Holding}
-
--- the slices of a table
-pub record Table : Type 0 where
-  pub rows : List ℕ
-  pub masks : List ℕ
-  pub coefs : List ℤ
-  pub counts : List ℕ
-  pub first : List ℕ
-
-abbrev pub table_of : List ℕ → List ℕ → List ℤ → List ℕ → List ℕ → Table
-table_of rows masks coefs counts first = record { rows = rows; masks = masks; coefs = coefs; counts = counts; first = first }
+use Rattle.standing.specs.Standing.{Stands, Holding}
+pub use Rattle.tables.specs.Slices.{Table, table_of, set_on}
 
 -- the table that holds the set, the second one or the first, and the other one
 abbrev pub holder : Bool → Table → Table → Table
@@ -24,9 +14,6 @@ abbrev pub other : Bool → Table → Table → Table
 other second T U = cond second T U
 
 -- what is said of slices, of a table
-abbrev pub set_on : Form → Table → QSet
-set_on f T = set_in f T.rows T.masks T.coefs T.counts
-
 abbrev pub StandsOn : Table → Form → Bounds → Type 0
 StandsOn T f b = Stands T.rows T.masks T.coefs T.counts T.first f b
 

@@ -10,18 +10,18 @@ use native.Mathlib.Omega.{arith}
 use lib.ListN.{get_or}
 use Rattle.automata.specs.Choice.{has, alt, map_o, choose}
 use Rattle.stored.specs.Fields.{records_from}
-use Rattle.lookup.specs.declared.Found.{Found}
-use Rattle.lookup.specs.declared.Found.TheVariants.{Row, Nothing}
+use Rattle.std.specs.declared.option.Option.{Option as Answer}
+use Rattle.std.specs.declared.option.Option.TheVariants.{Some, None}
 use Rattle.lookup.specs.Lookup.{row_with, transition_row, choices_of, is_some}
 use Rattle.lookup.specs.Answer.{found}
 use Rattle.lookup.proofs.Finding.{scan_hits}
 use Rattle.lookup.proofs.Unions.{union-has, some-map}
 
-found-row : (o : Option ℕ) (i : ℕ) → found o ≡ Row i → o ≡ some i
+found-row : (o : Option ℕ) (i : ℕ) → found o ≡ Some i → o ≡ some i
 found-row none i e = let z : ◌≡◌ {A = ℕ} 0 1 = cc in absurd (omega arith)
 found-row (some j) i e = cc
 
-found_nothing : (o : Option ℕ) → found o ≡ Nothing → o ≡ none
+found_nothing : (o : Option ℕ) → found o ≡ None → o ≡ none
 found_nothing none e = refl
 found_nothing (some j) e = let z : ◌≡◌ {A = ℕ} 0 1 = cc in absurd (omega arith)
 
@@ -42,8 +42,8 @@ pub record Taken {X : Type 0} (f : ℕ → X) (masks first : List ℕ) (s c i : 
   pub before : i < get_or first (s + 1) 0
   pub is : choose c (records_from (λ (j : ℕ). alt (get_or masks j 0) (f j)) (get_or first s 0) 1 (get_or first (s + 1) 0 - get_or first s 0)) ≡ some (f i)
 
-module _ {X : Type 0} (f : ℕ → X) (masks first : List ℕ) (s c : ℕ) {a : Found} (e : a ≡ found (transition_row masks first s c)) where
-  pub taken : (i : ℕ) → a ≡ Row i → Taken f masks first s c i
+module _ {X : Type 0} (f : ℕ → X) (masks first : List ℕ) (s c : ℕ) {a : Answer ℕ} (e : a ≡ found (transition_row masks first s c)) where
+  pub taken : (i : ℕ) → a ≡ Some i → Taken f masks first s c i
   taken i r =
       let row : transition_row masks first s c ≡ some i = found-row _ i (sym e ∙ r) in
       let hit = scan_hits masks c (get_or first s 0) (get_or first (s + 1) 0 - get_or first s 0) i row in
@@ -53,7 +53,7 @@ module _ {X : Type 0} (f : ℕ → X) (masks first : List ℕ) (s c : ℕ) {a : 
         is = choose-rows f masks c (get_or first s 0) (get_or first (s + 1) 0 - get_or first s 0) ∙ ap (map_o f) row;
       }
 
-  pub not_taken : a ≡ Nothing → choose c (records_from (λ (j : ℕ). alt (get_or masks j 0) (f j)) (get_or first s 0) 1 (get_or first (s + 1) 0 - get_or first s 0)) ≡ none
+  pub not_taken : a ≡ None → choose c (records_from (λ (j : ℕ). alt (get_or masks j 0) (f j)) (get_or first s 0) 1 (get_or first (s + 1) 0 - get_or first s 0)) ≡ none
   not_taken r = choose-rows f masks c (get_or first s 0) (get_or first (s + 1) 0 - get_or first s 0) ∙ ap (map_o f) (found_nothing (transition_row masks first s c) (sym e ∙ r))
 
 -- a state takes something under a choice exactly if it is one of the state's choices

@@ -6,8 +6,8 @@ use mathlib.Core.Option.{Option, none, some}
 use Prim.Native.Nat.{ℕ, ◌+◌, ◌*◌, ◌<◌, ◌≤◌}
 use native.Mathlib.Omega.{arith}
 use lib.ListN.{get_or}
-use Rattle.lookup.specs.declared.Found.{Found}
-use Rattle.lookup.specs.declared.Found.TheVariants.{Row, Nothing}
+use Rattle.std.specs.declared.option.Option.{Option as Answer}
+use Rattle.std.specs.declared.option.Option.TheVariants.{Some, None}
 use Rattle.lookup.specs.Lookup.{transition_row, pair_row}
 use Rattle.lookup.specs.Alts.{alts_from}
 use Rattle.lookup.specs.Answer.{found}
@@ -25,12 +25,12 @@ pub record Move (rows masks first : List ℕ) (c s i : ℕ) : Type 0 where
   pub before : i < get_or first (s + 1) 0
   pub is : move_in rows masks first c s ≡ some (pair_row rows i)
 
-module _ (rows masks first : List ℕ) (s c : ℕ) {a : Found} (e : a ≡ found (transition_row masks first s c)) where
-  pub moves : (i : ℕ) → a ≡ Row i → Move rows masks first c s i
+module _ (rows masks first : List ℕ) (s c : ℕ) {a : Answer ℕ} (e : a ≡ found (transition_row masks first s c)) where
+  pub moves : (i : ℕ) → a ≡ Some i → Move rows masks first c s i
   unfolding alts_from
   moves i r = let t = taken (pair_row rows) masks first s c e i r in record { after = t.after; before = t.before; is = t.is }
 
-  pub stays : a ≡ Nothing → move_in rows masks first c s ≡ none
+  pub stays : a ≡ None → move_in rows masks first c s ≡ none
   unfolding alts_from
   stays r = not_taken (pair_row rows) masks first s c e r
 

@@ -7,6 +7,7 @@ use Rattle.tables.specs.Table.{row_width}
 use Rattle.lookup.specs.Lookup.{pair_row}
 use Rattle.lookup.specs.Alts.{moves_in}
 use Rattle.meeting.specs.declared.Level.{Level}
+use Rattle.meeting.specs.declared.Sides.{Sides}
 use Rattle.meeting.specs.Met.{is_met, There, Meeting}
 use Rattle.meeting.specs.All.{met_by, met_in, all_met}
 
@@ -91,3 +92,19 @@ pub record Stepped (wide : ℕ) (met : List ℕ) (next : Level) (all : (ℕ → 
 pub record Gone (wide : ℕ) (met : List ℕ) (next : Level) (all : (ℕ → ℕ → Bool) → Bool) (met' : List ℕ) (r : Bool) : Type 0 where
   pub kept : Kept wide met next.from met'
   pub is : (g : ℕ → ℕ → Bool) → r && all_met g wide met' next ≡ all g
+
+-- ---- of both tables
+abbrev pub kids_on : Sides → ℕ → ℕ → (ℕ → ℕ → Bool) → ℕ → ℕ → Bool
+kids_on t c d g s e = kids_in t.image.rows.now t.image.masks.now t.image.first.now t.end.rows.now t.end.masks.now t.end.first.now c d g s e
+
+abbrev pub KidsThereOn : Sides → ℕ → ℕ → ℕ → Type 0
+KidsThereOn t size i j = KidsThere t.image.rows.now t.end.rows.now t.wide size i j
+
+abbrev pub ReadyOn : Sides → ℕ → ℕ → ℕ → Level → Type 0
+ReadyOn t size s e next = Ready t.image.rows.now t.image.masks.now t.image.first.now t.end.rows.now t.end.masks.now t.end.first.now t.wide size s e next
+
+abbrev pub RowReadyOn : Sides → ℕ → ℕ → ℕ → ℕ → Level → Type 0
+RowReadyOn t size s start stop next = RowReady t.image.rows.now t.image.masks.now t.image.first.now t.end.rows.now t.end.masks.now t.end.first.now t.wide size s start stop next
+
+abbrev pub StageOn : Sides → ℕ → Level → Level → Type 0
+StageOn t size l next = Stage t.image.rows.now t.image.masks.now t.image.first.now t.end.rows.now t.end.masks.now t.end.first.now t.wide size l next

@@ -1,7 +1,10 @@
 -- What the walk that remembers asks of its caller, and how the buffers are shared out.
 use Rattle.std.specs.Prelude.{◌≡◌, List, ℕ, suc, ◌*◌, ◌<◌, ◌≤◌, ℤ}
+use Rattle.tables.specs.Slices.{Table}
+use Rattle.meeting.specs.declared.Sides.{Sides}
 use Rattle.matching.specs.Levels.{start_of}
 use Rattle.matching.specs.Seeking.{Held}
+use Rattle.striding.specs.declared.Shares.{Shares}
 
 -- both tables hold well-formed sets of n qubits, of at most 1,024 and 128 states, and the lent buffers are so long
 pub record Lodged (rows masks : List ℕ) (coefs : List ℤ) (counts first end_rows end_masks : List ℕ) (end_coefs : List ℤ) (end_counts end_first : List ℕ) (met stack kept hints n : ℕ) : Type 0 where
@@ -24,3 +27,10 @@ pub record Shared (states ends wide plane room slots : ℕ) : Type 0 where
   pub planes : room * plane ≤ 16384
   pub most : slots ≤ 16
   pub stacks : slots * (room * plane) ≤ 16384
+
+-- ---- of tables
+abbrev pub LodgedOn : Table → Table → ℕ → ℕ → ℕ → ℕ → ℕ → Type 0
+LodgedOn t e met stack kept hints n = Lodged t.rows t.masks t.coefs t.counts t.first e.rows e.masks e.coefs e.counts e.first met stack kept hints n
+
+abbrev pub SharedOn : Sides → Shares → ℕ → Type 0
+SharedOn t h n = Shared (start_of t.image.counts.now (suc n)) (start_of t.end.counts.now (suc n)) t.wide h.plane h.room h.slots

@@ -1,40 +1,50 @@
--- A row of coefficients that is written is read back, and the other rows stay, because rows share no place. Assumes nothing.
-use mathlib.Core.Path.{◌≡◌, refl}
-use mathlib.Core.List.{List, [], ◌∷◌}
-use Prim.Native.Nat.{ℕ, ◌+◌, ◌*◌, ◌<◌, ◌≤◌}
+-- A row of coefficients that is set is read back, and no other row changes, since rows share no place. Assumes nothing.
+use mathlib.Core.Path.{◌≡◌, ◌∙◌}
+use mathlib.Core.List.{List}
+use Prim.Native.Nat.{ℕ, ◌+◌, ◌*◌, ◌/◌, ◌<◌, ◌≤◌}
 use native.Mathlib.Omega.{arith}
 use lib.IntN.{ℤ, pos}
-use lib.ListN.{length, get_or}
-use Rattle.amplitude.specs.Amp.{amp}
-use Rattle.tables.specs.Table.{leaf_width, leaf_row}
-use Rattle.tables.specs.Unpack.{PutLeaf}
-use Rattle.tables.proofs.Stores.{place, stores, block_in, block_out}
+use lib.ListN.{length, get_or, set, length-set}
+use lib.Seq.{get_or-set_same, get_or-set_other}
+use Rattle.amplitude.specs.Amp.{Amp, amp}
+use Rattle.amplitude.specs.Leaf.{leaf}
+use Rattle.tables.specs.Table.{leaf_row, row_set}
 
-module _ (coefs : List ℤ) (i : ℕ) (a b c d : ℤ) (room : (i + 1) * leaf_width ≤ length coefs) where
-  after : List ℤ
-  after = stores coefs (i * leaf_width) 0 (a ∷ b ∷ c ∷ d ∷ [])
+pub set-length : (coefs : List ℤ) (j : ℕ) (x : Amp) → length (row_set coefs j x) ≡ length coefs
+unfolding row_set
+set-length coefs j (amp a b c d) = simp length-set
 
-  in_row : (j : ℕ) → j < leaf_width → get_or after (place (i * leaf_width) j) (pos 0) ≡ get_or (a ∷ b ∷ c ∷ d ∷ []) j (pos 0)
-  unfolding after
-  in_row j h = block_in (a ∷ b ∷ c ∷ d ∷ []) coefs i (pos 0) leaf_width refl (omega arith) j h
+-- a place outside of the row is as it was
+pub set-outside : (coefs : List ℤ) (j : ℕ) (x : Amp) (i : ℕ) → (i / 4 ≡ j → ⊥) → get_or (row_set coefs j x) i (pos 0) ≡ get_or coefs i (pos 0)
+unfolding row_set
+set-outside coefs j (amp a b c d) i h =
+    let h₀ : i ≡ j * 4 → ⊥ = λ e. h (omega arith) in
+    let h₁ : i ≡ j * 4 + 1 → ⊥ = λ e. h (omega arith) in
+    let h₂ : i ≡ j * 4 + 2 → ⊥ = λ e. h (omega arith) in
+    let h₃ : i ≡ j * 4 + 3 → ⊥ = λ e. h (omega arith) in
+    rw (get_or-set_other, get_or-set_other, get_or-set_other, get_or-set_other)
 
-  out_row : (q j : ℕ) → (q ≡ i → ⊥) → j < leaf_width → get_or after (place (q * leaf_width) j) (pos 0) ≡ get_or coefs (place (q * leaf_width) j) (pos 0)
-  unfolding after
-  out_row q j ne h = block_out (a ∷ b ∷ c ∷ d ∷ []) coefs i (pos 0) leaf_width refl q j (λ k lt e. omega (arith, ne))
+pub set_other : (coefs : List ℤ) (j : ℕ) (x : Amp) (i k : ℕ) → (i ≡ j → ⊥) → leaf_row (row_set coefs j x) i k ≡ leaf_row coefs i k
+unfolding leaf_row
+set_other coefs j x i k h =
+    rw (set-outside coefs j x (i * 4) (λ e. h (omega arith)), set-outside coefs j x (i * 4 + 1) (λ e. h (omega arith)), set-outside coefs j x (i * 4 + 2) (λ e. h (omega arith)), set-outside coefs j x (i * 4 + 3) (λ e. h (omega arith)))
 
-  pub put-leaf : PutLeaf coefs (stores coefs (i * leaf_width) 0 (a ∷ b ∷ c ∷ d ∷ [])) i (amp a b c d)
-  unfolding leaf_row after
-  put-leaf = record {
-    here = λ k.
-        let e = in_row 0 (omega arith) in
-        let e₁ = in_row 1 (omega arith) in
-        let e₂ = in_row 2 (omega arith) in
-        let e₃ = in_row 3 (omega arith) in
-        cc;
-    others = λ j k ne.
-        let e = out_row j 0 ne (omega arith) in
-        let e₁ = out_row j 1 ne (omega arith) in
-        let e₂ = out_row j 2 ne (omega arith) in
-        let e₃ = out_row j 3 ne (omega arith) in
-        cc;
-  }
+-- a later store is at another place
+earlier : (l : List ℤ) (p q : ℕ) (v : ℤ) → q < p → get_or (set l p v) q (pos 0) ≡ get_or l q (pos 0)
+earlier l p q v h = get_or-set_other l p q v (pos 0) (λ e. omega arith)
+
+pub set_here : (coefs : List ℤ) (j : ℕ) (x : Amp) (k : ℕ) → j * 4 + 4 ≤ length coefs → leaf_row (row_set coefs j x) j k ≡ leaf k x
+unfolding row_set leaf_row
+set_here coefs j (amp a b c d) k h =
+    let p : ℕ = j * 4 in
+    let l₁ : List ℤ = set coefs p a in
+    let l₂ : List ℤ = set l₁ (p + 1) b in
+    let l₃ : List ℤ = set l₂ (p + 2) c in
+    let e₀ : get_or (set l₃ (p + 3) d) p (pos 0) ≡ a =
+    earlier l₃ (p + 3) p d (omega arith) ∙ earlier l₂ (p + 2) p c (omega arith) ∙ earlier l₁ (p + 1) p b (omega arith) ∙ get_or-set_same coefs p a (pos 0) (omega arith) in
+    let e₁ : get_or (set l₃ (p + 3) d) (p + 1) (pos 0) ≡ b =
+    earlier l₃ (p + 3) (p + 1) d (omega arith) ∙ earlier l₂ (p + 2) (p + 1) c (omega arith) ∙ get_or-set_same l₁ (p + 1) b (pos 0) (simp length-set (omega arith)) in
+    let e₂ : get_or (set l₃ (p + 3) d) (p + 2) (pos 0) ≡ c =
+    earlier l₃ (p + 3) (p + 2) d (omega arith) ∙ get_or-set_same l₂ (p + 2) c (pos 0) (simp length-set (omega arith)) in
+    let e₃ : get_or (set l₃ (p + 3) d) (p + 3) (pos 0) ≡ d = get_or-set_same l₃ (p + 3) d (pos 0) (simp length-set (omega arith)) in
+    rw (e₀, e₁, e₂, e₃)

@@ -12,7 +12,7 @@ use Rattle.stored.specs.Form.{Form, form_of, hd_size, lv_size, tr_size, lf_size,
 use Rattle.stored.proofs.Reading.{records-count}
 use Rattle.tables.specs.Table.{row_width, tr_row, lf_row, tr_rows, lf_rows, table_set}
 use Rattle.tables.specs.States.{state_row, Rising}
-use Rattle.tables.specs.Unpack.{row_read, taken, Tabled, Leaved, Counted, Begun}
+use Rattle.tables.specs.Unpack.{taken, Tabled, Leaved, Counted, Begun}
 use Rattle.tables.specs.Ready.{Ready, Unpacked}
 use Rattle.tables.proofs.Listed.{same-records, take-records}
 use Rattle.tables.proofs.TableLaws.{map_rec, named, leaf-row, row-states-rise}
@@ -47,7 +47,7 @@ module _ (file : List ℕ) (F : Form) (rows masks : List ℕ) (coefs : List ℤ)
   inner-are = same-records (tr_row rows masks) (tr_at file) 0 (trs_at F) 1 tr_size F.inner (λ i lt. let e : 0 + i * 1 ≡ i = omega arith in ap (tr_row rows masks) e ∙ h.table.inner_rows i lt)
 
   leaf-is : (i : ℕ) → i < F.leaves → lf_row rows masks coefs (F.inner + i) ≡ lf_at F.k file (lfs_at F + i * lf_size)
-  unfolding row_read lf_at
+  unfolding lf_at
   leaf-is i lt =
       let at : ℕ = lfs_at F + i * lf_size in
       leaf-row rows masks coefs (F.inner + i) ∙ ap (map_rec (named coefs)) (h.table.leaf_rows i lt) ∙ ap (λ (x : Leaf). rec (u16_at file (at + 2)) (u32_at file (at + 4)) x) (h.amplitudes.each i F.k lt)
@@ -67,7 +67,7 @@ module _ (file : List ℕ) (F : Form) (rows masks : List ℕ) (coefs : List ℤ)
 
   -- leaf i's row names row i of the coefficients
   numbered : (i : ℕ) → i < F.leaves → get_or rows ((F.inner + i) * row_width + 1) 0 ≡ i
-  unfolding tr_row row_read
+  unfolding tr_row
   numbered i lt = ap (λ (t : TR). (taken t).0) (h.table.leaf_rows i lt)
 
   by_form : (first : List ℕ) → sum (set_by file F).counts ≡ F.states → Begun rows (F.inner + F.leaves) (F.states + 1) first → Unpacked rows masks coefs counts first (set_by file F)

@@ -3,8 +3,8 @@
 -- `masks` has one mask to a record. All TR records stand first, in their order, then all LF records, in theirs: record i of the file is row i.
 -- `coefs` has four numbers to a leaf. `counts` has the states on each level. `first` has for each state, and one past the last, the row where
 -- its records begin: the number of rows of smaller states.
-use Rattle.std.specs.Prelude.{◌≡◌, cond, List, ℕ, zero, suc, ◌+◌, ◌*◌, ◌≤◌, ℤ, pos, ltb, length, get_or, take}
-use Rattle.amplitude.specs.Amp.{amp}
+use Rattle.std.specs.Prelude.{◌≡◌, cond, List, ℕ, zero, suc, ◌+◌, ◌*◌, ◌≤◌, ℤ, pos, ltb, length, get_or, take, set}
+use Rattle.amplitude.specs.Amp.{Amp, amp}
 use Rattle.amplitude.specs.Leaf.{Leaf, leaf}
 use Rattle.automata.specs.Sets.{rec, TR, LF, QSet, sum}
 use Rattle.stored.specs.Fields.{records_from}
@@ -23,6 +23,15 @@ tr_row rows masks i = rec (get_or rows (i * row_width) 0) (get_or masks i 0) (ge
 unfoldable pub leaf_row : List ℤ → ℕ → ℕ → Leaf
 leaf_row coefs j k =
     leaf k (amp (get_or coefs (j * leaf_width) (pos 0)) (get_or coefs (j * leaf_width + 1) (pos 0)) (get_or coefs (j * leaf_width + 2) (pos 0)) (get_or coefs (j * leaf_width + 3) (pos 0)))
+
+-- four numbers, from a place on, as an amplitude
+abbrev pub amp_from : List ℤ → ℕ → Amp
+amp_from coefs at = amp (get_or coefs at (pos 0)) (get_or coefs (at + 1) (pos 0)) (get_or coefs (at + 2) (pos 0)) (get_or coefs (at + 3) (pos 0))
+
+-- the coefficients with row j set
+unfoldable pub row_set : List ℤ → ℕ → Amp → List ℤ
+row_set coefs j (amp a b c d) =
+    set (set (set (set coefs (j * leaf_width) a) (j * leaf_width + 1) b) (j * leaf_width + 2) c) (j * leaf_width + 3) d
 
 -- the LF record of row i
 unfoldable pub lf_row : List ℕ → List ℕ → List ℤ → ℕ → LF

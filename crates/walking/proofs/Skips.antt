@@ -15,11 +15,23 @@ use Rattle.lookup.specs.Lookup.{pair_row, leaf_of, is_some}
 use Rattle.lookup.specs.Alts.{alts_from, leaf_alts, table_automaton}
 use Rattle.stepping.specs.Step.{move_in}
 use Rattle.stepping.proofs.Answers.{has-taken}
-use Rattle.masks.specs.Next.{NextChoice}
+use Rattle.masks.specs.Next.{FirstFrom, NoneFrom}
 use Rattle.reaching.specs.Reached.{all_reached, has_choice}
 use Rattle.reaching.proofs.ReachLaws.{reached_tells, reached-is}
 use Rattle.walking.specs.Walk.{trees_by, branch_of}
 use Rattle.walking.proofs.Branches.{none_pass}
+
+-- the mask has no choice from `lo` up to below `hi`
+pub record Lacks (mask lo hi : ℕ) : Type 0 where
+  pub after : lo ≤ hi
+  pub most : hi ≤ choices_most
+  pub skipped : (d : ℕ) → lo ≤ d → d < hi → has mask d ≡ false
+
+pub to-first : {mask lo c : ℕ} → FirstFrom mask lo c → Lacks mask lo c
+to-first f = record { after = f.after; most = omega (arith, f.below); skipped = f.skipped }
+
+pub to_end : {mask lo : ℕ} → lo ≤ choices_most → NoneFrom mask lo → Lacks mask lo choices_most
+to_end h f = record { after = h; most = omega arith; skipped = f.all }
 
 -- ---- numbers that have nothing
 flat_skip : {X : Type 0} (F : ℕ → List X) (total k lo hi : ℕ) → lo + k ≡ hi → hi ≤ total → ((d : ℕ) → lo ≤ d → d < hi → F d ≡ []) → flat F (up_to hi (total - hi)) ≡ flat F (up_to lo (total - lo))
@@ -60,7 +72,7 @@ module _ (rows masks : List ℕ) (coefs : List ℤ) (first : List ℕ) where
         e
 
     -- ---- the choices that the level's mask has in turn
-    module _ {mask lo hi : ℕ} (is : (d : ℕ) → d < choices_most → has mask d ≡ all_reached (has_choice masks first d) row from to) (next : NextChoice mask lo hi) where
+    module _ {mask lo hi : ℕ} (is : (d : ℕ) → d < choices_most → has mask d ≡ all_reached (has_choice masks first d) row from to) (next : Lacks mask lo hi) where
       pub skip_lacks : (d : ℕ) → lo ≤ d → d < hi → all_reached (has_choice masks first d) row from to ≡ false
       skip_lacks d l u = sym (is d (omega (arith, next.most))) ∙ next.skipped d l u
 

@@ -18,6 +18,10 @@ tick_halted Going passes b t (member r w) h = absurd (h refl)
 tick_halted Failed passes b t m h = refl
 tick_halted Undecided passes b t m h = refl
 
+pub tick_stays : (passes : Member → Bool) (b : ℕ) (t : Tally) (m : Member) → Halted t → t ≡ tick_of passes b t m
+unfolding Halted
+tick_stays passes b t m h = sym (tick_halted t.kind passes b t m h)
+
 module _ (passes : Member → Bool) (b : ℕ) where
   pub tally_append : (t : Tally) (xs ys : List Member) → tallied passes b t (xs ++ ys) ≡ tallied passes b (tallied passes b t xs) ys
   unfolding tallied
@@ -62,14 +66,10 @@ module _ (passes : Member → Bool) (b : ℕ) (t : Tally) (r : ℕ) (w : List �
   unfolding tick_by
   tick_passed h g = simp (k, lt-leb _ _ h, g)
 
+  -- the same, as the code says it: its kind is what it was
+  pub tick_counted : t.count < b → passes (member r w) ≡ true → record t { count = t.count + 1 } ≡ tick_of passes b t (member r w)
+  tick_counted h g = ap (λ (x : Kind). record { kind = x; count = t.count + 1; root = t.root; word = t.word }) k ∙ tick_passed h g
+
   pub tick_missed : t.count < b → passes (member r w) ≡ false → record { kind = Failed; count = t.count + 1; root = r; word = w } ≡ tick_of passes b t (member r w)
   unfolding tick_by
   tick_missed h g = simp (k, lt-leb _ _ h, g)
-
-pub tick_failed : (passes : Member → Bool) (b : ℕ) (t : Tally) (m : Member) → t.kind ≡ Failed → t ≡ tick_of passes b t m
-unfolding tick_by
-tick_failed passes b t m k = simp k
-
-pub tick_undecided : (passes : Member → Bool) (b : ℕ) (t : Tally) (m : Member) → t.kind ≡ Undecided → t ≡ tick_of passes b t m
-unfolding tick_by
-tick_undecided passes b t m k = simp k

@@ -17,7 +17,7 @@ use Rattle.automata.proofs.MemberLaws.{IsMember, is_member_lem}
 use Rattle.verdict.specs.Verdict.{fails, is_state, examine}
 use Rattle.imagewise.specs.Image.{ends_in, image_verdict}
 use Rattle.jobs.specs.Reply.{says, in_places, word_places}
-use Rattle.replies.specs.Replied.{reply_from}
+use Rattle.replies.specs.Replied.{reply_from, fields_of}
 use Rattle.replies.proofs.Makers.{is-holds, is-fails, is-undecided}
 use Rattle.matching.specs.Seeking.{Lent}
 use Rattle.matching.proofs.Exact.{roots-are, state_exact}
@@ -40,20 +40,20 @@ module _ (passes test : Member → Bool) where
   abbrev pub Agree : Member → Type 0
   Agree (member r w) = (filled (replicate word_places 0) 0 w ≡ in_places w) × (test (in_zeros (member r w)) ≡ passes (member r w))
 
-  ended : (b : ℕ) (t : Tally) (ms : List Member) → (t.kind ≡ Going → ⊥) → reply_of (tallied test b t ms) ≡ reply_of t
+  ended : (b : ℕ) (t : Tally) (ms : List Member) → (t.kind ≡ Going → ⊥) → fields_of (reply_of (tallied test b t ms)) ≡ fields_of (reply_of t)
   unfolding Halted
-  ended b t ms h = ap reply_of (tally_halted test b t ms h)
+  ended b t ms h = ap (λ (u : Tally). fields_of (reply_of u)) (tally_halted test b t ms h)
 
   first_tick : (b : ℕ) (t u : Tally) (m : Member) (ms : List Member) → u ≡ tick_of test b t m → tallied test b t (m ∷ ms) ≡ tallied test b u ms
   unfolding tallied
   first_tick b t u m ms e = ap (λ (x : Tally). tallied test b x ms) (sym e)
 
   pub tally_exact : (ms : List Member) (p b : ℕ) → ((m : Member) → Memᴰ m ms → Agree m)
-      → reply_of (tallied test (p + b) (going p) (map in_zeros ms)) ≡ reply_from (says (examine passes p b ms))
+      → fields_of (reply_of (tallied test (p + b) (going p) (map in_zeros ms))) ≡ reply_from (says (examine passes p b ms))
   unfolding tallied reply_by
   tally_exact [] p b h = is-holds p
   tally_exact (member r w ∷ ms) p zero h =
-      ap reply_of (first_tick (p + 0) (going p) _ (in_zeros (member r w)) (map in_zeros ms) (tick_used test (p + 0) (going p) r (filled (replicate word_places 0) 0 w) refl (omega arith)))
+      ap (λ (t : Tally). fields_of (reply_of t)) (first_tick (p + 0) (going p) _ (in_zeros (member r w)) (map in_zeros ms) (tick_used test (p + 0) (going p) r (filled (replicate word_places 0) 0 w) refl (omega arith)))
       ∙ ended (p + 0) (record { kind = Undecided; count = p; root = 0; word = replicate word_places 0 }) (map in_zeros ms) (λ e. let z : ◌≡◌ {A = ℕ} 0 1 = cc in omega arith)
       ∙ is-undecided p
   tally_exact (member r w ∷ ms) p (suc b) h =
@@ -62,15 +62,15 @@ module _ (passes test : Member → Bool) where
       good : Agree (member r w)
       good = h (member r w) (Memᴰ.head refl)
 
-      go : (x : Bool) → passes (member r w) ≡ x → reply_of (tallied test (suc p + b) (going (suc p)) (map in_zeros ms)) ≡ reply_from (says (examine passes (suc p) b ms))
-          → reply_of (tallied test (p + suc b) (going p) (in_zeros (member r w) ∷ map in_zeros ms)) ≡ reply_from (says (elim x [ true ↦ examine passes (suc p) b ms | false ↦ fails (suc p) (member r w) ]))
+      go : (x : Bool) → passes (member r w) ≡ x → fields_of (reply_of (tallied test (suc p + b) (going (suc p)) (map in_zeros ms))) ≡ reply_from (says (examine passes (suc p) b ms))
+          → fields_of (reply_of (tallied test (p + suc b) (going p) (in_zeros (member r w) ∷ map in_zeros ms))) ≡ reply_from (says (elim x [ true ↦ examine passes (suc p) b ms | false ↦ fails (suc p) (member r w) ]))
       go true e ih =
           let total : p + suc b ≡ suc p + b = omega arith in
-          ap reply_of (first_tick (p + suc b) (going p) (going (p + 1)) (in_zeros (member r w)) (map in_zeros ms) (tick_passed test (p + suc b) (going p) r (filled (replicate word_places 0) 0 w) refl (omega arith) (good.1 ∙ e)))
-          ∙ ap₂ (λ (k q : ℕ). reply_of (tallied test k (going q) (map in_zeros ms))) total (add-one p)
+          ap (λ (t : Tally). fields_of (reply_of t)) (first_tick (p + suc b) (going p) (going (p + 1)) (in_zeros (member r w)) (map in_zeros ms) (tick_passed test (p + suc b) (going p) r (filled (replicate word_places 0) 0 w) refl (omega arith) (good.1 ∙ e)))
+          ∙ ap₂ (λ (k q : ℕ). fields_of (reply_of (tallied test k (going q) (map in_zeros ms)))) total (add-one p)
           ∙ ih
       go false e ih =
-          ap reply_of (first_tick (p + suc b) (going p) _ (in_zeros (member r w)) (map in_zeros ms) (tick_missed test (p + suc b) (going p) r (filled (replicate word_places 0) 0 w) refl (omega arith) (good.1 ∙ e)))
+          ap (λ (t : Tally). fields_of (reply_of t)) (first_tick (p + suc b) (going p) _ (in_zeros (member r w)) (map in_zeros ms) (tick_missed test (p + suc b) (going p) r (filled (replicate word_places 0) 0 w) refl (omega arith) (good.1 ∙ e)))
           ∙ ended (p + suc b) (record { kind = Failed; count = p + 1; root = r; word = filled (replicate word_places 0) 0 w }) (map in_zeros ms) (λ f. let z : ◌≡◌ {A = ℕ} 0 1 = cc in omega arith)
           ∙ is-fails (p + 1) r w good.0
           ∙ ap (λ (k : ℕ). reply_from (says (fails k (member r w)))) (add-one p)
@@ -139,8 +139,8 @@ module _ {rows masks : List ℕ} {coefs : List ℤ} {counts first end_rows end_m
   all_agree (member r w) k = agrees r w (is_member_lem g.image.set r w k)
 
   -- the reply of the walk over all roots
-  pub walked : (b : ℕ) → reply_of (tallied test b (going 0) (flat (root_of rows masks coefs first n) (up_to 0 (get_or counts 0 0)))) ≡ reply_from (says (image_verdict g.image.set g.ends.set b))
+  pub walked : (b : ℕ) → fields_of (reply_of (tallied test b (going 0) (flat (root_of rows masks coefs first n) (up_to 0 (get_or counts 0 0))))) ≡ reply_from (says (image_verdict g.image.set g.ends.set b))
   walked b =
       let z : b ≡ 0 + b = omega arith in
-      ap₂ (λ (k : ℕ) (ms : List Member). reply_of (tallied test k (going 0) ms)) z (all_listed g.image)
+      ap₂ (λ (k : ℕ) (ms : List Member). fields_of (reply_of (tallied test k (going 0) ms))) z (all_listed g.image)
       ∙ tally_exact (ends_in g.image.set g.ends.set) test (runs g.image.set) 0 b all_agree

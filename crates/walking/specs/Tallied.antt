@@ -2,8 +2,7 @@
 use Rattle.std.specs.Prelude.{◌≡◌, Bool, cond, List, [], ◌∷◌, ℕ, ◌+◌, leb}
 use Rattle.automata.specs.Members.{Member, member}
 use Rattle.replies.specs.declared.Reply.{Reply}
-use Rattle.replies.specs.Replied.{counted}
-use Rattle.replies.proofs.Makers.{failing}
+use Rattle.replies.specs.declared.Reply.TheVariants.{Holds, Fails, Undecided as Unsure}
 use Rattle.walking.specs.declared.Tally.{Tally}
 use Rattle.walking.specs.declared.Kind.{Kind}
 use Rattle.walking.specs.declared.Kind.TheVariants.{Going, Failed, Undecided}
@@ -31,9 +30,9 @@ Halted t = t.kind ≡ Going → ⊥
 
 -- the reply where no members are left
 unfoldable pub reply_by : Kind → Tally → Reply
-reply_by Going t = counted 2 t.count
-reply_by Failed t = failing t.count t.root t.word
-reply_by Undecided t = counted 4 t.count
+reply_by Going t = Holds t.count
+reply_by Failed t = Fails t.count t.root t.word
+reply_by Undecided t = Unsure t.count
 
 abbrev pub reply_of : Tally → Reply
 reply_of t = reply_by t.kind t

@@ -2,20 +2,21 @@
 // the members in order, by a walk over choices, and its laws that the check over all of them is document 01's verdict. Crate entering walks.
 #![tactic(auto)]
 
-ghost use Rattle.std.specs.Prelude.{true, ◌≡◌, ◌+◌, ◌<◌, length, get_or, take};
+ghost use Rattle.std.specs.Prelude.{true, false, ◌≡◌, length};
 ghost use Rattle.automata.specs.Members.{member};
-ghost use Rattle.verdict.specs.Search.{searched};
-ghost use Rattle.lookup.specs.Alts.{table_automaton};
-ghost use Rattle.judging.specs.Judge.{Spaced};
-ghost use Rattle.matching.specs.Seeking.{Lent};
+ghost use Rattle.walking.specs.declared.Kind.TheVariants.{Going};
+ghost use Rattle.walking.specs.On.{passes_on, TestedOn};
 ghost use Rattle.walking.specs.Tallied.{tick_of, Halted, reply_of};
-ghost use Rattle.walking.specs.Walk.{passes_in, spare_words};
 
 use judging::judge;
-use replies::{Reply, fails, holds, undecided};
+use meeting::Sides;
+use replies::Reply;
+
+// Words of the spare row that the search has: four to each of 1,024 states of the image.
+const SPARE: usize = 4096;
 
 // The check goes on, a member failed, or the allowance was used up.
-#[derive(Clone, Copy)]
+#[derive(Clone, Copy, PartialEq, Eq)]
 pub enum Kind {
     Going,
     Failed,
@@ -23,6 +24,7 @@ pub enum Kind {
 }
 
 // How far the check is: the members that passed, with the one that failed counted; and that one's root and word, in 21 places.
+// One struct for all kinds: `tick_of` and `tallied` of specs/Tallied say of every tally, whatever its kind, what becomes of its root and word.
 #[derive(Clone, Copy)]
 pub struct Tally {
     pub kind: Kind,
@@ -31,122 +33,95 @@ pub struct Tally {
     pub word: [u8; 21],
 }
 
+// What a check is asked, and what it only reads: both sets, which have n qubits; the words of a plane of marks, and the planes that there is room
+// for; how many members may be examined; and the marks of the pairs that could match by any words.
+#[derive(Clone, Copy)]
+pub struct Task<'a> {
+    pub sides: Sides<'a>,
+    pub n: u8,
+    pub plane: u16,
+    pub room: u16,
+    pub allowance: u32,
+    pub free: &'a [u32],
+}
+
 // Whether the check has stopped.
+#[tactic(auto, unfolding(crate::specs::Tallied::Halted))]
 pub fn stopped(t: Tally) -> bool
-    ensures { result ≡ true → Halted t }
+    ensures halted { result ≡ true → Halted t }
+    ensures going { result ≡ false → t.kind ≡ Going }
 {
-    let k = t.kind;
-    match k {
-        Kind::Going => false,
-        Kind::Failed => true,
-        Kind::Undecided => true,
-    }
+    t.kind != Kind::Going
 }
 
 // The reply of a check that is over.
-pub fn reply_of(t: Tally) -> Reply
-    ensures { result ≡ reply_of t }
-{
-    let k = t.kind;
-    let word = t.word;
-    match k {
-        Kind::Going => holds(t.count),
-        Kind::Failed => fails(t.count, t.root, word),
-        Kind::Undecided => undecided(t.count),
+impl From<Tally> for Reply {
+    #[tactic(auto, unfolding(crate::specs::Tallied::reply_by))]
+    fn from(t: Tally) -> Reply
+        ensures { result ≡ reply_of t }
+    {
+        let word = t.word;
+        match t.kind {
+            Kind::Going => Reply::Holds(t.count),
+            Kind::Failed => Reply::Fails {
+                place: t.count,
+                root: t.root,
+                word,
+            },
+            Kind::Undecided => Reply::Undecided(t.count),
+        }
     }
 }
 
 // The tree that the image's root gives by the word is a state of the end set: the search, with a spare row of its own.
-fn passes(
-    n: u8,
-    rows: &[u16],
-    masks: &[u32],
-    coefs: &[i32],
-    counts: &[u16],
-    first: &[u16],
-    endrows: &[u16],
-    endmasks: &[u32],
-    endcoefs: &[i32],
-    endcounts: &[u16],
-    endfirst: &[u16],
-    word: &[u8],
-    may: &mut [u32],
-    met: &mut [u32],
-    wide: u16,
-    plane: u16,
-    room: u16,
-    root: u16,
-) -> bool
-    requires { Lent rows.now masks.now coefs.now counts.now first.now endrows.now endmasks.now endcoefs.now endcounts.now endfirst.now word.now wide plane n × Lent rows.now masks.now coefs.now counts.now first.now endrows.now endmasks.now endcoefs.now endcounts.now endfirst.now word.now wide (length may.old) n × Spaced plane room 0 (length met.old) spare_words × (root < get_or counts.now 0 0) }
-    ensures { result ≡ searched (table_automaton rows.now masks.now coefs.now first.now) (table_automaton endrows.now endmasks.now endcoefs.now endfirst.now) (get_or endcounts.now 0 0) n (take (n + 1) word.now) root }
+fn passes(task: &Task, word: &[u8], may: &mut [u32], met: &mut [u32], root: u16) -> bool
+    requires { TestedOn task.now word.now root (length may.old) (length met.old) }
+    ensures { result ≡ passes_on task.now (member root word.now) }
 {
-    let mut spare = [0u32; 4096];
+    let mut spare = [0; SPARE];
     judge(
-        n, rows, masks, coefs, counts, first, endrows, endmasks, endcoefs, endcounts, endfirst,
-        word, met, &mut spare, may, wide, plane, room, root,
+        task.n,
+        &task.sides,
+        word,
+        met,
+        &mut spare,
+        may,
+        task.plane,
+        task.room,
+        root,
     )
 }
 
-// One member more: the allowance b is used up, or the member is tested.
+// One member more: the allowance is used up, or the member is tested.
 pub fn tick(
-    n: u8,
-    rows: &[u16],
-    masks: &[u32],
-    coefs: &[i32],
-    counts: &[u16],
-    first: &[u16],
-    endrows: &[u16],
-    endmasks: &[u32],
-    endcoefs: &[i32],
-    endcounts: &[u16],
-    endfirst: &[u16],
+    task: &Task,
     may: &mut [u32],
     met: &mut [u32],
-    wide: u16,
-    plane: u16,
-    room: u16,
-    b: u32,
     root: u16,
     word: [u8; 21],
     t: Tally,
 ) -> Tally
-    requires { Lent rows.now masks.now coefs.now counts.now first.now endrows.now endmasks.now endcoefs.now endcounts.now endfirst.now word wide plane n × Lent rows.now masks.now coefs.now counts.now first.now endrows.now endmasks.now endcoefs.now endcounts.now endfirst.now word wide (length may.old) n × Spaced plane room 0 (length met.old) spare_words × (root < get_or counts.now 0 0) }
-    ensures { result ≡ tick_of (passes_in rows.now masks.now coefs.now first.now endrows.now endmasks.now endcoefs.now endcounts.now endfirst.now n) b t (member root word) }
+    requires { TestedOn task.now word root (length may.old) (length met.old) }
+    ensures { result ≡ tick_of (passes_on task.now) task.now.allowance t (member root word) }
 {
-    let k = t.kind;
-    let count = t.count;
-    let old = t.word;
-    match k {
-        Kind::Going => {
-            let place = count as u64 + 1;
-            if (b as u64) < place {
-                return Tally {
-                    kind: Kind::Undecided,
-                    count,
-                    root: t.root,
-                    word: old,
-                };
-            }
-            if passes(
-                n, rows, masks, coefs, counts, first, endrows, endmasks, endcoefs, endcounts,
-                endfirst, &word, may, met, wide, plane, room, root,
-            ) {
-                Tally {
-                    kind: Kind::Going,
-                    count: count + 1,
-                    root: t.root,
-                    word: old,
-                }
-            } else {
-                Tally {
-                    kind: Kind::Failed,
-                    count: count + 1,
-                    root,
-                    word,
-                }
-            }
-        }
-        Kind::Failed => t,
-        Kind::Undecided => t,
+    if stopped(t) {
+        return t;
     }
+    if task.allowance <= t.count {
+        return Tally {
+            kind: Kind::Undecided,
+            ..t
+        };
+    }
+    let passed = passes(task, &word, may, met, root);
+    let count = t.count + 1;
+    if !passed {
+        return Tally {
+            kind: Kind::Failed,
+            count,
+            root,
+            word,
+        };
+    }
+    Tally { count, ..t }
 }

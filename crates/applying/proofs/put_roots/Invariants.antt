@@ -1,14 +1,10 @@
 -- `applying::put_roots` meets its contract. The loop's invariant: the first i keys are those of the first i roots. Assumes nothing.
 use mathlib.Core.Path.{◌≡◌}
-use Prim.Native.Nat.{ℕ, ◌-◌, ◌<◌, ◌≤◌}
-use lib.ListN.{length, get_or}
+use Prim.Native.Nat.{ℕ, ◌<◌}
+use lib.ListN.{get_or}
 use Rattle.gates.specs.Key.{plain, stored}
 use Rattle.applying.proofs.put_roots.Given as goal
 
 abbrev pub invariant-loop-i : goal.invariant-loop-i
 invariant-loop-i l =
-    (l.i ≤ l.count) × (length l.cur ≡ length l.initial.cur) × ((j : ℕ) → j < l.i → get_or l.cur j 0 ≡ stored (plain j))
-
-abbrev pub decreases-loop-i : goal.decreases-loop-i
-decreases-loop-i l =
-    l.count - l.i
+    (j : ℕ) → j < l.i → get_or l.cur j 0 ≡ stored (plain j)

@@ -1,17 +1,17 @@
 -- A plane that has the words is one of the first q. Assumes nothing.
+use mathlib.Core.Path.{◌≡◌}
 use mathlib.Core.Bool.{false≢true}
-use native.Mathlib.Omega.{arith}
-use Rattle.meeting.proofs.Places.{words-before}
+use Prim.Native.Nat.{◌+◌}
+use borrow.Author.Rules.{rules}
+use Rattle.std.specs.List.{slice_range}
+use Rattle.batching.proofs.Wholes.{same_parts}
 use Rattle.batching.proofs.stands.Goals as goal
 
-pub same_words-requires : goal.same_words-requires
-same_words-requires c =
-    let w = words-before c.args.plane c.loop-j.j c.args.q c.loop-j-test.true in
-    (omega (arith, c.cell.ensures), omega arith)
-
-pub returns-then-same_words : goal.returns-then-same_words
-returns-then-same_words c =
-    λ h. record { which = c.loop-j.j; before = c.loop-j-test.true; same = rw c.cell.ensures at (c.same_words.ensures c.if-same_words.true) }
+pub returns-then-same : goal.returns-then-same
+returns-then-same c =
+    λ h.
+    let same : slice_range c.args.stack.now c.cell-start.result (c.cell-start.result + c.args.count) ≡ slice_range c.args.row.now c.args.at (c.args.at + c.args.count) = search rules in
+    record { which = c.loop-j.j; before = c.loop-j-test.true; same = same_parts c.args.stack.now c.args.row.now c.args.plane c.loop-j.j c.args.at c.args.at c.args.count c.cell-start.ensures same }
 
 pub returns : goal.returns
 returns c =

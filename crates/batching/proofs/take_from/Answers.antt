@@ -8,7 +8,7 @@ use Rattle.batching.proofs.take_from.Goals as goal
 
 pub copy_out-requires : goal.copy_out-requires
 copy_out-requires c =
-    let w = words-before c.args.plane c.args.k c.args.room c.requires.5 in
+    let w = words-before c.args.step.now.plane c.args.k c.args.step.now.room c.requires.5 in
     level-room c.requires.0 (omega (arith, c.requires.1))
 
 pub take_choices-requires : goal.take_choices-requires

@@ -1,15 +1,18 @@
 -- `checking::check_files` meets its contract: both tables have room for every set within the bounds, and what the files leave there is what the gates
 -- ask. Assumes nothing.
--- ---- far places by name
-use mathlib.Core.Path.{sym, ap, ◌∙◌}
+use mathlib.Core.Path.{ap, sym, ◌∙◌, subst}
 use native.Mathlib.Omega.{arith}
-use borrow.Author.Rules.{rules}
 use Rattle.setfile.specs.Answer.{bounds_of}
+use Rattle.refusals.proofs.Told.{turned_down, good_seen}
+use Rattle.jobs.specs.Check.{ready}
 use Rattle.replies.specs.Replied.{reply_from}
+use Rattle.replies.proofs.Makers.{is-refusal}
 use Rattle.buffers.proofs.Own.{own-table, sized-kept}
-use Rattle.carrying.specs.Tables.{table_of}
-use Rattle.preparing.specs.Prepared.{files_judged}
-use Rattle.preparing.proofs.Readied.{readied, turned_away}
+use Rattle.tables.specs.Slices.{Table, lent_is, table_of, set_on}
+use Rattle.applying.specs.Result.{bounds_from}
+use Rattle.carrying.specs.Carried.{gates_from}
+use Rattle.preparing.specs.Prepared.{files_judged, files_of}
+use Rattle.deciding.specs.Decided.{decided, Deciding}
 use Rattle.deciding.proofs.Walkable.{own-lent}
 use Rattle.checking.proofs.Steps.{own-roomy, roomy-by, to_decide, is_checked, not_checked}
 use Rattle.checking.proofs.check_files.Goals as goal
@@ -23,120 +26,22 @@ prepare-requires c =
 
 pub decide-requires : goal.decide-requires
 decide-requires c =
-    let h = readied (files_judged (bounds_of c.bounds_of.result) (bounds_of c.bounds_of-2.result) c.args.start.now c.args.circuit.now c.args.end.now) _ (sym c.in-Ready.is ∙ c.prepare.ensures.value) in
-    to_decide c.bounds_of.result c.bounds_of-2.result c.args.room c.args.endroom c.bounds_of.ensures c.bounds_of-2.ensures c.args.start.now c.args.circuit.now c.args.end.now _ h (c.prepare.ensures.holding h.files h.is) c.requires
-    (own-lent (sized-kept own-table c.arows-2-1.given c.amasks-2-1.given c.acoefs-2-1.given c.acounts-2-1.given c.afirst-2-1.given) (omega arith) c.requires.start)
+    let h = good_seen files_of (files_judged (bounds_of c.bounds_of.result) (bounds_of c.bounds_of-2.result) c.args.start.now c.args.circuit.now c.args.end.now) _ c.in-Ok.ensures.value in
+    let long = c.prepare.ensures.long.0 in
+    let may = to_decide c.bounds_of.result c.bounds_of-2.result c.args.room c.args.endroom c.bounds_of.ensures c.bounds_of-2.ensures c.args.start.now c.args.circuit.now c.args.end.now _ h (c.prepare.ensures.holding h.thing h.good) c.requires
+    (own-lent (sized-kept own-table long.rows long.masks long.coefs long.counts long.first) (omega arith) c.requires.start) in
+    subst (λ (E : Table). Deciding c.args.circuit.now c.in-Ok.files (lent_is c.prepare.new.table) E c.args.met.now c.args.stack.now c.args.kept.now c.args.hints.now c.args.room)
+    (sym c.view-ends.ensures) may
 
-pub returns-in-Refused : goal.returns-in-Refused
-returns-in-Refused c =
-    let j = turned_away (files_judged (bounds_of c.bounds_of.result) (bounds_of c.bounds_of-2.result) c.args.start.now c.args.circuit.now c.args.end.now) _ (sym c.in-Refused.is ∙ c.prepare.ensures.value) in
-    c.refused.ensures ∙ ap reply_from (not_checked c.bounds_of.result c.bounds_of-2.result c.args.room c.args.endroom c.bounds_of.ensures c.bounds_of-2.ensures c.args.start.now c.args.circuit.now c.args.end.now c.args.terms.most _ j)
+pub returns-in-Err : goal.returns-in-Err
+returns-in-Err c =
+    let j = turned_down files_of (files_judged (bounds_of c.bounds_of.result) (bounds_of c.bounds_of-2.result) c.args.start.now c.args.circuit.now c.args.end.now) _ c.in-Err.ensures.value in
+    is-refusal _ ∙ ap reply_from (not_checked c.bounds_of.result c.bounds_of-2.result c.args.room c.args.endroom c.bounds_of.ensures c.bounds_of-2.ensures c.args.start.now c.args.circuit.now c.args.end.now c.args.terms.most _ j)
 
-pub returns-in-Ready : goal.returns-in-Ready
-returns-in-Ready c =
-    let h = readied (files_judged (bounds_of c.bounds_of.result) (bounds_of c.bounds_of-2.result) c.args.start.now c.args.circuit.now c.args.end.now) _ (sym c.in-Ready.is ∙ c.prepare.ensures.value) in
-    c.decide.ensures ∙ ap reply_from (is_checked c.bounds_of.result c.bounds_of-2.result c.args.room c.args.endroom c.bounds_of.ensures c.bounds_of-2.ensures c.args.start.now c.args.circuit.now c.args.end.now _ h (c.prepare.ensures.holding h.files h.is) c.args.terms.most)
-
-pub bounds_of-requires : goal.bounds_of-requires
-bounds_of-requires c =
-    search rules
-
-pub bounds_of-requires-2 : goal.bounds_of-requires-2
-bounds_of-requires-2 c =
-    search rules
-
-pub slice_bounds-prepare-end : goal.slice_bounds-prepare-end
-slice_bounds-prepare-end c =
-    search rules
-
-pub slice_bounds-prepare-end-2 : goal.slice_bounds-prepare-end-2
-slice_bounds-prepare-end-2 c =
-    search rules
-
-pub slice_bounds-prepare-end-3 : goal.slice_bounds-prepare-end-3
-slice_bounds-prepare-end-3 c =
-    search rules
-
-pub slice_bounds-prepare-end-4 : goal.slice_bounds-prepare-end-4
-slice_bounds-prepare-end-4 c =
-    search rules
-
-pub slice_bounds-prepare-end-5 : goal.slice_bounds-prepare-end-5
-slice_bounds-prepare-end-5 c =
-    search rules
-
-pub slice_bounds-prepare-end-6 : goal.slice_bounds-prepare-end-6
-slice_bounds-prepare-end-6 c =
-    search rules
-
-pub slice_bounds-prepare-end-7 : goal.slice_bounds-prepare-end-7
-slice_bounds-prepare-end-7 c =
-    search rules
-
-pub slice_bounds-prepare-end-8 : goal.slice_bounds-prepare-end-8
-slice_bounds-prepare-end-8 c =
-    search rules
-
-pub slice_bounds-prepare-end-9 : goal.slice_bounds-prepare-end-9
-slice_bounds-prepare-end-9 c =
-    search rules
-
-pub slice_bounds-prepare-end-10 : goal.slice_bounds-prepare-end-10
-slice_bounds-prepare-end-10 c =
-    search rules
-
-pub slice_bounds-decide-end : goal.slice_bounds-decide-end
-slice_bounds-decide-end c =
-    search rules
-
-pub slice_bounds-decide-end-in-Ready : goal.slice_bounds-decide-end-in-Ready
-slice_bounds-decide-end-in-Ready c =
-    search rules
-
-pub slice_bounds-decide-end-in-Ready-2 : goal.slice_bounds-decide-end-in-Ready-2
-slice_bounds-decide-end-in-Ready-2 c =
-    search rules
-
-pub slice_bounds-decide-end-in-Ready-3 : goal.slice_bounds-decide-end-in-Ready-3
-slice_bounds-decide-end-in-Ready-3 c =
-    search rules
-
-pub slice_bounds-decide-end-in-Ready-4 : goal.slice_bounds-decide-end-in-Ready-4
-slice_bounds-decide-end-in-Ready-4 c =
-    search rules
-
-pub slice_bounds-decide-end-in-Ready-5 : goal.slice_bounds-decide-end-in-Ready-5
-slice_bounds-decide-end-in-Ready-5 c =
-    search rules
-
-pub slice_bounds-decide-end-in-Ready-6 : goal.slice_bounds-decide-end-in-Ready-6
-slice_bounds-decide-end-in-Ready-6 c =
-    search rules
-
-pub slice_bounds-decide-end-in-Ready-7 : goal.slice_bounds-decide-end-in-Ready-7
-slice_bounds-decide-end-in-Ready-7 c =
-    search rules
-
-pub slice_bounds-decide-end-in-Ready-8 : goal.slice_bounds-decide-end-in-Ready-8
-slice_bounds-decide-end-in-Ready-8 c =
-    search rules
-
-pub slice_bounds-decide-end-in-Ready-9 : goal.slice_bounds-decide-end-in-Ready-9
-slice_bounds-decide-end-in-Ready-9 c =
-    search rules
-
-pub shape_of-met : goal.shape_of-met
-shape_of-met c =
-    search rules
-
-pub shape_of-stack : goal.shape_of-stack
-shape_of-stack c =
-    search rules
-
-pub shape_of-kept : goal.shape_of-kept
-shape_of-kept c =
-    search rules
-
-pub shape_of-hints : goal.shape_of-hints
-shape_of-hints c =
-    search rules
+pub returns-in-Ok : goal.returns-in-Ok
+returns-in-Ok c =
+    let h = good_seen files_of (files_judged (bounds_of c.bounds_of.result) (bounds_of c.bounds_of-2.result) c.args.start.now c.args.circuit.now c.args.end.now) _ c.in-Ok.ensures.value in
+    let f = c.in-Ok.files in
+    c.decide.ensures
+    ∙ ap (λ (E : Table). reply_from (decided (bounds_from c.args.room) (ready (set_on f.form (lent_is c.prepare.new.table)) (gates_from f.form.n c.args.circuit.now 0 f.count) (set_on f.endform E)) c.args.terms.most)) c.view-ends.ensures
+    ∙ ap reply_from (is_checked c.bounds_of.result c.bounds_of-2.result c.args.room c.args.endroom c.bounds_of.ensures c.bounds_of-2.ensures c.args.start.now c.args.circuit.now c.args.end.now _ h (c.prepare.ensures.holding h.thing h.good) c.args.terms.most)

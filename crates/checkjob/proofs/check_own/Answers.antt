@@ -1,5 +1,4 @@
 -- `checkjob::check_own` meets its contract: arrays of the named sizes are never short. Assumes nothing.
--- ---- far places by name
 use Rattle.checkjob.proofs.Tested.{own-long, own_reply}
 use Rattle.checkjob.proofs.check_own.Goals as goal
 

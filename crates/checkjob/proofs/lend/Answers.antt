@@ -1,5 +1,4 @@
 -- `checkjob::lend` meets its contract: what is lent are the fronts of the buffers, so that further cells stay. Assumes nothing.
--- ---- far places by name
 use mathlib.Core.Path.{sym}
 use Rattle.checkjob.proofs.Working.{fronts_sized, fronts_wiped}
 use Rattle.checkjob.proofs.lend.Goals as goal

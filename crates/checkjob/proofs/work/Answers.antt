@@ -1,5 +1,4 @@
 -- `checkjob::work` meets its contract: the check over the bounds of every set, then every row wiped. Assumes nothing.
--- ---- far places by name
 use Rattle.checkjob.proofs.Working.{may_check, is-answer, wiped-whole}
 use Rattle.checkjob.proofs.work.Goals as goal
 

@@ -11,4 +11,4 @@ returns-then-s-eq-GT_SIZE c =
 pub returns : goal.returns
 unfolding judge_one
 returns c =
-    simp (ne_eqb _ 6 c.if-s-eq-GT_SIZE.false) c.refused.ensures
+    simp (ne_eqb _ 6 c.if-s-eq-GT_SIZE.false)

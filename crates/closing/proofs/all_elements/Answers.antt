@@ -1,18 +1,14 @@
--- `closing::all_elements` meets its contract: the numbers left pass exactly if all do. Assumes nothing.
-use native.Mathlib.Omega.{arith}
-use Rattle.closing.proofs.Loops.{test-begin, test-found, test_on, test-end}
+-- `closing::all_elements` meets its contract: both are true exactly where each number is below 24. Assumes nothing.
+use mathlib.Core.Path.{refl}
+use Prim.Native.Nat.{◌<◌}
+use lib.Dec.{ltb}
+use borrow.Author.Rules.{rules}
+use Rattle.std.proofs.lemmas.Bool.Decides.{same_from_decides, Decides-by_and, Decides-ltb}
+use Rattle.cliffords.specs.Jobs.{all_elements}
 use Rattle.closing.proofs.all_elements.Goals as goal
 
-pub returns-then-seq-i-ge-ELEMENTS : goal.returns-then-seq-i-ge-ELEMENTS
-returns-then-seq-i-ge-ELEMENTS c =
-    test-found c.loop-left.invariant c.loop-left-test.true (omega (arith, c.if-seq-i-ge-ELEMENTS.true))
-
-pub loop-left-preserved : goal.loop-left-preserved
-loop-left-preserved c =
-    test_on c.loop-left.invariant c.loop-left-test.true (omega (arith, c.if-seq-i-ge-ELEMENTS.false))
-
-pub loop-left-init : goal.loop-left-init
-loop-left-init c = test-begin c.args.seq.now
-
 pub returns : goal.returns
-returns c = test-end c.loop-left.invariant c.loop-left-test.false
+unfolding all_elements
+returns c =
+    same_from_decides _ _ (search rules)
+    (Decides-by_and (λ x. ltb x 24) (λ x. x < 24) all_elements (λ x. Decides-ltb x 24) refl (λ _ _. refl) c.args.seq.now)

@@ -5,14 +5,14 @@ use Rattle.closing.proofs.all_of.Goals as goal
 
 pub product-all-requires : goal.product-all-requires
 product-all-requires c =
-    (c.loop-unplayed.invariant.below, play_number c.loop-unplayed.invariant (omega (arith, c.loop-unplayed-test.true)))
+    (c.loop-e.invariant.below, play_number c.loop-e.invariant c.loop-e-test.true)
 
-pub loop-unplayed-preserved : goal.loop-unplayed-preserved
-loop-unplayed-preserved c =
-    play_on c.loop-unplayed.invariant (omega (arith, c.loop-unplayed-test.true)) c.product-all.ensures
+pub loop-e-preserved : goal.loop-e-preserved
+loop-e-preserved c =
+    play_on c.loop-e.invariant c.loop-e-test.true c.product-all.ensures
 
-pub loop-unplayed-init : goal.loop-unplayed-init
-loop-unplayed-init c = play_begin c.args.seq.now c.requires
+pub loop-e-init : goal.loop-e-init
+loop-e-init c = play_begin c.args.seq.now c.requires
 
 pub returns : goal.returns
-returns c = play_end c.loop-unplayed.invariant (omega (arith, c.loop-unplayed-test.false))
+returns c = play_end c.loop-e.invariant (omega arith)

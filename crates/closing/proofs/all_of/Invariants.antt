@@ -2,10 +2,6 @@
 use Rattle.closing.proofs.Loops.{Playing}
 use Rattle.closing.proofs.all_of.Given as goal
 
-abbrev pub invariant-loop-unplayed : goal.invariant-loop-unplayed
-invariant-loop-unplayed l =
-    Playing l.seq l.all l.i l.unplayed
-
-abbrev pub decreases-loop-unplayed : goal.decreases-loop-unplayed
-decreases-loop-unplayed l =
-    l.unplayed
+abbrev pub invariant-loop-e : goal.invariant-loop-e
+invariant-loop-e l =
+    Playing l.seq l.all l.e-index

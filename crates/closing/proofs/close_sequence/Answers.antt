@@ -2,16 +2,17 @@
 use mathlib.Core.Path.{sym, ap, ◌∙◌}
 use native.Mathlib.Omega.{arith}
 use Rattle.replies.specs.Replied.{reply_from}
+use Rattle.replies.proofs.Makers.{is-refusing, is_made}
 use Rattle.closing.proofs.Answers.{too_long, too_large, closed_by}
 use Rattle.closing.proofs.close_sequence.Goals as goal
 
 pub returns-then-seq-gt-SEQUENCE_MOST : goal.returns-then-seq-gt-SEQUENCE_MOST
 returns-then-seq-gt-SEQUENCE_MOST c =
-    c.refused.ensures ∙ ap reply_from (sym (too_long c.args.seq.now (omega (arith, c.if-seq-gt-SEQUENCE_MOST.true))))
+    is-refusing _ ∙ ap reply_from (sym (too_long c.args.seq.now (omega (arith, c.if-seq-gt-SEQUENCE_MOST.true))))
 
 pub returns-then-not-good : goal.returns-then-not-good
 returns-then-not-good c =
-    c.refused-then-not-good.ensures ∙ ap reply_from (sym (too_large c.args.seq.now (omega arith) (sym c.all_elements-good.ensures ∙ c.if-not-good.true)))
+    is-refusing _ ∙ ap reply_from (sym (too_large c.args.seq.now (omega arith) (sym c.all_elements-good.ensures ∙ c.if-not-good.true)))
 
 pub all_of-requires : goal.all_of-requires
 all_of-requires c =
@@ -19,5 +20,5 @@ all_of-requires c =
 
 pub returns : goal.returns
 returns c =
-    c.made.ensures
-    ∙ ap reply_from (sym (closed_by c.args.seq.now (omega arith) (sym c.all_elements-good.ensures ∙ c.if-not-good.false) c.all_of.ensures.0 c.inverse_of.ensures))
+    is_made _
+    ∙ ap reply_from (sym (closed_by c.args.seq.now (omega arith) (sym c.all_elements-good.ensures ∙ c.if-not-good.false) c.all_of.ensures.0 (c.from.ensures ∙ c.inverse_of.ensures)))

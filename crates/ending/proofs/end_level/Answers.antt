@@ -1,44 +1,26 @@
--- The loop's invariant: the keys from i on give the records left to add. The measure is how many they are. Assumes nothing.
-use mathlib.Core.Path.{◌≡◌}
-use mathlib.Core.Bool.{true}
-use Prim.Native.Nat.{◌<◌}
+-- The loop's invariant: the keys from i on give the records left to add. Assumes nothing.
 use native.Mathlib.Omega.{arith}
 use Rattle.ending.specs.Ends.{ends_of}
-use Rattle.ending.proofs.Steps.{going}
-use Rattle.ending.proofs.Keys.{level-begin, level_on, level-end}
+use Rattle.ending.proofs.Steps.{way_lent}
+use Rattle.ending.proofs.Keys.{level-begin, level_on, level-over, level-end}
 use Rattle.ending.proofs.end_level.Goals as goal
 
 pub loop-i-init : goal.loop-i-init
 loop-i-init c =
-    (omega arith, level-begin (ends_of c.args.src.now c.args.choices.now c.args.numbers.now c.args.first.now) c.args.base c.args.cur.now c.args.count c.requires.count_in_bounds.0 c.requires.lent)
-
-pub bounds-cur-i : goal.bounds-cur-i
-bounds-cur-i c =
-    omega (arith, c.requires.count_in_bounds.0, ((let turning : (c.loop-i.i < c.args.count) × (c.loop-i.d.ok ≡ true) = going c.loop-i.i c.args.count c.loop-i.d.ok c.loop-i-test.true in turning)).0)
-
-pub overflow_add-base : goal.overflow_add-base
-overflow_add-base c =
-    omega (arith, c.requires.count_in_bounds.1, ((let turning : (c.loop-i.i < c.args.count) × (c.loop-i.d.ok ≡ true) = going c.loop-i.i c.args.count c.loop-i.d.ok c.loop-i-test.true in turning)).0)
-
-pub end_state-d-requires : goal.end_state-d-requires
-end_state-d-requires c =
-    record {
-      leaf_key = c.requires.by_index c.loop-i.i ((let turning : (c.loop-i.i < c.args.count) × (c.loop-i.d.ok ≡ true) = going c.loop-i.i c.args.count c.loop-i.d.ok c.loop-i-test.true in turning)).0;
-      lent = c.loop-i.invariant.1.ended.lent ((let turning : (c.loop-i.i < c.args.count) × (c.loop-i.d.ok ≡ true) = going c.loop-i.i c.args.count c.loop-i.d.ok c.loop-i-test.true in turning)).1;
-    }
+    level-begin (ends_of c.args.old.now.rows.now c.args.old.now.masks.now c.args.old.now.coefs.now c.args.old.now.first.now) c.args.base c.args.cur.now c.args.count c.requires.count_in_bounds.0 c.requires.lent
 
 pub loop-i-preserved : goal.loop-i-preserved
-loop-i-preserved c = (
-  omega (arith, ((let turning : (c.loop-i.i < c.args.count) × (c.loop-i.d.ok ≡ true) = going c.loop-i.i c.args.count c.loop-i.d.ok c.loop-i-test.true in turning)).0),
-  level_on (ends_of c.args.src.now c.args.choices.now c.args.numbers.now c.args.first.now) c.args.base c.args.cur.now c.args.count c.requires.count_in_bounds.0 c.loop-i.i c.loop-i.invariant.1 c.loop-i-test.true c.end_state-d.ensures,
-)
+loop-i-preserved c =
+    level_on (ends_of c.args.old.now.rows.now c.args.old.now.masks.now c.args.old.now.coefs.now c.args.old.now.first.now) c.args.base c.args.cur.now c.args.count c.requires.count_in_bounds.0 c.loop-i.i c.loop-i.invariant (omega arith) c.in_ok-end_state.ensures
 
-pub returns : goal.returns
-returns c =
-    level-end (ends_of c.args.src.now c.args.choices.now c.args.numbers.now c.args.first.now) c.args.base c.args.cur.now c.args.count c.requires.count_in_bounds.0 c.loop-i.i c.loop-i.invariant.1 c.loop-i.invariant.0 c.loop-i-test.false
+pub returns-in_err-end_state-clause-ended : goal.returns-in_err-end_state-clause-ended
+returns-in_err-end_state-clause-ended c =
+    rw c.from_residual.ensures
+    (level-over (ends_of c.args.old.now.rows.now c.args.old.now.masks.now c.args.old.now.coefs.now c.args.old.now.first.now) c.args.base c.args.cur.now c.args.count c.requires.count_in_bounds.0 c.loop-i.i c.loop-i.invariant (omega arith) c.in_err-end_state.ensures)
 
-pub overflow_add-i : goal.overflow_add-i
-overflow_add-i c = omega (arith, ((let turning : (c.loop-i.i < c.args.count) × (c.loop-i.d.ok ≡ true) = going c.loop-i.i c.args.count c.loop-i.d.ok c.loop-i-test.true in turning)).0)
+pub returns-clause-ended : goal.returns-clause-ended
+returns-clause-ended c =
+    level-end (ends_of c.args.old.now.rows.now c.args.old.now.masks.now c.args.old.now.coefs.now c.args.old.now.first.now) c.args.base c.args.cur.now c.args.count c.requires.count_in_bounds.0 c.loop-i.i c.loop-i.invariant (omega arith)
 
-pub loop-i-smaller : goal.loop-i-smaller
-loop-i-smaller c = omega (arith, ((let turning : (c.loop-i.i < c.args.count) × (c.loop-i.d.ok ≡ true) = going c.loop-i.i c.args.count c.loop-i.d.ok c.loop-i-test.true in turning)).0)
+pub end_state-requires-clause-lent : goal.end_state-requires-clause-lent
+end_state-requires-clause-lent c = way_lent c.loop-i.invariant

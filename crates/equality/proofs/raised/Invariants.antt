@@ -1,15 +1,12 @@
--- The loop's invariant: after `done` doublings the product is √2^(2 done) times what it was at first, since a doubling is two units. What is left
--- of d is then nothing, or the one unit of the single step. The measure is the doublings to come. Assumes nothing.
+-- After so many doublings the product is √2 to twice that power times what it was at first, since a doubling is two units. What is left of d is
+-- then nothing, or the one unit of the single step. Assumes nothing.
 use mathlib.Core.Path.{◌≡◌}
-use Prim.Native.Nat.{◌+◌, ◌-◌, ◌≤◌}
+use Prim.Native.Nat.{◌+◌}
 use Rattle.amplitude.specs.Amp.{√2^}
+use Rattle.leafrows.specs.Value.{amp_is}
 use Rattle.equality.specs.Wide.{wide_is}
 use Rattle.equality.proofs.raised.Given as goal
 
-abbrev pub invariant-loop-done : goal.invariant-loop-done
-invariant-loop-done l =
-    (l.done ≤ l.pairs) × (wide_is l.product ≡ √2^ (l.done + l.done) (wide_is l.initial.product))
-
-abbrev pub decreases-loop-done : goal.decreases-loop-done
-decreases-loop-done l =
-    l.pairs - l.done
+abbrev pub invariant-loop : goal.invariant-loop
+invariant-loop l =
+    wide_is l.product ≡ √2^ (l.counter + l.counter) (amp_is l.fn.x)

@@ -4,11 +4,13 @@ use Rattle.stored.specs.Form.{set_of}
 use Rattle.stored.specs.Rules.{tr_fault}
 use Rattle.records.specs.Read.{tr_of}
 use Rattle.records.proofs.ReadLaws.{tr_read_lem}
+use Rattle.faults.specs.Fault.{reason_of}
 use Rattle.faults.proofs.FaultLaws.{fault_is}
 use Rattle.faults.proofs.tr_fault.Goals as goal
 
 pub returns : goal.returns
 returns c =
     c.fault_of.ensures
-    ∙ simp (c.level_of-right.ensures.0, c.level_of-left.ensures.0, c.level_of-own.ensures.0) (fault_is c.args.s.now c.args.n c.requires.0 c.tr_at-t.result)
-    ∙ ap (tr_fault (set_of c.args.s.now)) (ap tr_of c.tr_at-t.ensures ∙ tr_read_lem c.args.s.now c.args.at)
+    ∙ ap reason_of
+    (simp (c.level_of-right.ensures.is, c.level_of-left.ensures.is, c.level_of-own.ensures.is) (fault_is c.args.s.now c.args.n c.requires.0 c.tr_at-t.result)
+    ∙ ap (tr_fault (set_of c.args.s.now)) (ap tr_of c.tr_at-t.ensures ∙ tr_read_lem c.args.s.now c.args.at))

@@ -1,15 +1,6 @@
--- Word after word becomes zero. Assumes nothing.
-use Rattle.flags.proofs.FlagLaws.{begin, next, all}
+-- The words filled are zero. Assumes nothing.
+use Rattle.flags.proofs.FlagLaws.{cleared}
 use Rattle.flags.proofs.clear_words.Goals as goal
 
-pub loop-i-init : goal.loop-i-init
-loop-i-init c =
-    begin c.args.words.now c.args.from c.args.to
-
-pub loop-i-preserved : goal.loop-i-preserved
-loop-i-preserved c =
-    next c.loop-i.invariant c.requires c.loop-i-test.true
-
-pub returns : goal.returns
-returns c =
-    all c.loop-i.invariant c.requires c.loop-i-test.false
+pub returns-then-from-to : goal.returns-then-from-to
+returns-then-from-to c = cleared _ _ _ _ c.if-from-to.true c.requires (c.fill.ensures.after (λ y e. e))

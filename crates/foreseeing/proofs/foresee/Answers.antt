@@ -4,12 +4,12 @@ use Rattle.matching.proofs.Grounds.{level-there}
 use Rattle.foreseeing.proofs.Grounds.{first-level, all-levels}
 use Rattle.foreseeing.proofs.foresee.Goals as goal
 
-pub bounds-counts-0 : goal.bounds-counts-0
-bounds-counts-0 c =
+pub bounds-sides-0 : goal.bounds-sides-0
+bounds-sides-0 c =
     level-there c.requires.image 0 (omega arith)
 
-pub bounds-endcounts-0 : goal.bounds-endcounts-0
-bounds-endcounts-0 c =
+pub bounds-sides-0-2 : goal.bounds-sides-0-2
+bounds-sides-0-2 c =
     level-there c.requires.ends 0 (omega arith)
 
 pub foresee_from-requires : goal.foresee_from-requires

@@ -1,41 +1,43 @@
--- `gating::gate_file` meets its contract. Assumes nothing.
-use mathlib.Core.Path.{refl, sym, ◌∙◌}
-use Rattle.stored.specs.Judge.{judge_set}
-use Rattle.stored.specs.Refusal.{start_source}
-use Rattle.stored.specs.Form.{set_of}
-use Rattle.setfile.specs.Answer.{form_read}
-use Rattle.setfile.proofs.Taken.{taken, turned_down}
+-- `gating::gate_file` meets its contract: a set that was made is stored, and a refusal is replied. Assumes nothing.
+use mathlib.Core.Path.{ap, sym, ◌∙◌, subst}
+use lib.ListN.{length}
+use Rattle.stored.specs.Pack.{file_of}
+use Rattle.jobs.specs.Reply.{made}
+use Rattle.packing.specs.Written.{at_front}
+use Rattle.tables.specs.Slices.{Table, set_on}
+use Rattle.replies.specs.Replied.{reply_from}
+use Rattle.standing.specs.Tables.{StandsOn}
+use Rattle.refusals.proofs.Told.{turned_down, good_seen}
+use Rattle.replies.proofs.Makers.{is-refusal}
+use Rattle.standing.specs.Standing.{form_of}
 use Rattle.settling.specs.Result.{bounds_from}
 use Rattle.gating.specs.Gated.{new_set_by}
-use Rattle.gating.proofs.GateOn.{same_reply, same_output, not_started, started_stands, started}
+use Rattle.gating.proofs.Storing.{target-narrow, made-stands, made_reply, made_output}
 use Rattle.gating.proofs.gate_file.Goals as goal
 
-pub gate_on-requires : goal.gate_on-requires
-gate_on-requires c =
-    let t = taken (bounds_from c.args.room) start_source c.args.set.now _ (sym c.in-Good.is ∙ c.load.ensures.value) in
+pub new_set-requires : goal.new_set-requires
+new_set-requires c =
+    record { roomy = c.requires.roomy; lists = c.requires.target.lists; lent = c.requires.target.lent }
+
+pub store-requires : goal.store-requires
+store-requires c =
+    let k = good_seen form_of (new_set_by (bounds_from c.args.room) c.args.set.now c.args.circuit.now) _ c.in-Ok.ensures.value in
     record {
-      stands = started_stands t (c.load.ensures.holding (set_of c.args.set.now) t.good);
-      target = c.requires.target;
+      stands = subst (λ (T : Table). StandsOn T c.in-Ok.form (bounds_from c.args.room)) (sym c.view-table.ensures) (made-stands (c.new_set.ensures.holding k.thing k.good) k.value);
+      narrow = (target-narrow c.requires.target, c.requires.target.long);
     }
 
-pub returns-in-Bad : goal.returns-in-Bad
-returns-in-Bad c =
-    let b = bounds_from c.args.room in
-    let e = turned_down (judge_set b start_source c.args.set.now) (form_read c.args.set.now) _ (sym c.in-Bad.is ∙ c.load.ensures.value) in
-    let i = not_started b c.args.set.now c.args.circuit.now _ e in
-    let j = new_set_by b c.args.set.now c.args.circuit.now in
-    record {
-      value = same_reply _ j i c.refused.ensures;
-      output_after = same_output c.args.output.now _ j i refl;
-    }
+pub returns-in-Err : goal.returns-in-Err
+returns-in-Err c =
+    let k = turned_down form_of (new_set_by (bounds_from c.args.room) c.args.set.now c.args.circuit.now) _ c.in-Err.ensures.value in
+    record { value = rw k (is-refusal _); output_after = rw k }
 
-pub returns-in-Good : goal.returns-in-Good
-returns-in-Good c =
-    let b = bounds_from c.args.room in
-    let t = taken b start_source c.args.set.now _ (sym c.in-Good.is ∙ c.load.ensures.value) in
-    let e = started t (c.load.ensures.holding (set_of c.args.set.now) t.good) c.args.circuit.now in
-    let j = new_set_by b c.args.set.now c.args.circuit.now in
+pub returns-in-Ok : goal.returns-in-Ok
+returns-in-Ok c =
+    let j = new_set_by (bounds_from c.args.room) c.args.set.now c.args.circuit.now in
+    let k = good_seen form_of j _ c.in-Ok.ensures.value in
+    let h = c.new_set.ensures.holding k.thing k.good in
     record {
-      value = same_reply _ j e c.gate_on.ensures.value;
-      output_after = same_output c.args.output.now _ j e c.gate_on.ensures.output_after;
+      value = made_reply h k.value j k.good (c.store.ensures.value ∙ ap (λ (T : Table). reply_from (made (length (file_of (set_on c.in-Ok.form T))))) c.view-table.ensures);
+      output_after = made_output h k.value j k.good c.args.output.now (c.store.ensures.output_after ∙ ap (λ (T : Table). at_front (file_of (set_on c.in-Ok.form T)) c.args.output.now) c.view-table.ensures);
     }

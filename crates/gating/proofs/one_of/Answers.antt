@@ -1,20 +1,20 @@
--- `gating::one_of` meets its contract. Assumes nothing.
-use mathlib.Core.Path.{sym, ap, ◌∙◌}
+-- `gating::one_of` meets its contract: a circuit that was read has one gate. Assumes nothing.
 use native.Mathlib.Omega.{arith}
-use Rattle.gates.specs.Circuit.{judge_one}
-use Rattle.gating.specs.Gated.{first_answer, one_answer}
-use Rattle.gating.proofs.OneRead.{bad-one, good-one}
+use mathlib.Core.Path.{ap, sym, ◌≡◌, ◌∙◌}
+use borrow.Author.Rules.{rules}
+use Rattle.std.specs.Prelude.{Err}
+use Rattle.gating.proofs.OneRead.{bad-one, good-one, told-one}
 use Rattle.gating.proofs.one_of.Goals as goal
 
-pub first_of-requires : goal.first_of-requires
-first_of-requires c =
-    omega (arith, (good-one c.args.n c.args.circuit.now _ (sym c.in-Good.is ∙ c.read_one.ensures)).long)
+pub gate_at-requires : goal.gate_at-requires
+gate_at-requires c =
+    omega (arith, (good-one c.args.n c.args.circuit.now _ c.in_ok-read_one.ensures).long)
 
-pub returns-in-Bad : goal.returns-in-Bad
-returns-in-Bad c =
-    bad-one (judge_one c.args.n c.args.circuit.now) _ (sym c.in-Bad.is ∙ c.read_one.ensures)
+pub returns-in_err-read_one : goal.returns-in_err-read_one
+returns-in_err-read_one c =
+    let e : c.from_residual.result ≡ Err c.in_err-read_one.field-0.0 = search rules in
+    rw e (sym (bad-one c.args.n c.args.circuit.now _ c.in_err-read_one.ensures))
 
-pub returns-in-Good : goal.returns-in-Good
-returns-in-Good c =
-    let o = good-one c.args.n c.args.circuit.now _ (sym c.in-Good.is ∙ c.read_one.ensures) in
-    c.first_of.ensures ∙ ap first_answer o.read ∙ ap one_answer (sym o.is)
+pub returns : goal.returns
+returns c =
+    rw c.ok_or.ensures.value (told-one (good-one c.args.n c.args.circuit.now _ c.in_ok-read_one.ensures) _ _ c.gate_at.ensures)

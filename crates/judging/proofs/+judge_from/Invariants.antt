@@ -2,7 +2,7 @@
 use mathlib.Core.Path.{◌≡◌}
 use Prim.Native.Nat.{◌-◌}
 use lib.ListN.{length}
-use Rattle.lookup.specs.Alts.{table_automaton}
+use Rattle.matching.specs.On.{automaton_of}
 use Rattle.judging.proofs.Turning.{Sifting}
 use Rattle.judging.proofs.+judge_from.Given as goal
 
@@ -13,7 +13,7 @@ decreases-judge_from l = l.left
 abbrev pub invariant-loop-place : goal.invariant-loop-place
 invariant-loop-place l =
     (length l.stack ≡ length l.initial.stack) × (length l.scratch ≡ length l.initial.scratch)
-    × Sifting (table_automaton l.rows l.masks l.coefs l.first) (table_automaton l.endrows l.endmasks l.endcoefs l.endfirst) l.word l.at (l.left - 1) l.wide l.plane l.initial.stack l.p l.level l.stack l.place
+    × Sifting (automaton_of l.search.sides.image) (automaton_of l.search.sides.end) l.search.word.now l.at (l.left - 1) l.search.sides.wide l.search.plane l.initial.stack l.p l.fn.level l.stack l.place
 
 abbrev pub decreases-loop-place : goal.decreases-loop-place
 decreases-loop-place l = l.all - l.place

@@ -2,19 +2,19 @@
 use mathlib.Core.Path.{◌≡◌, refl, sym, ◌∙◌}
 use Prim.Native.Nat.{◌+◌}
 use native.Mathlib.Omega.{arith}
-use Rattle.lookup.specs.Alts.{table_automaton}
 use Rattle.matching.proofs.Grounds.{level-there}
 use Rattle.matching.proofs.Turns.{hints-again}
 use Rattle.matching.proofs.Roots.{lent_again, root_seeking, all_hints}
+use Rattle.matching.specs.On.{automaton_of}
 use Rattle.judging.proofs.Turning.{rooting, rooting_on, rooted-all, whole_word, root_rooted, apt, judge_roots, spaced-again}
 use Rattle.judging.proofs.judge.Goals as goal
 
-pub bounds-endcounts-0 : goal.bounds-endcounts-0
-bounds-endcounts-0 c =
+pub bounds-sides-0 : goal.bounds-sides-0
+bounds-sides-0 c =
     level-there c.requires.0.ends 0 (omega arith)
 
-pub bounds-counts-0 : goal.bounds-counts-0
-bounds-counts-0 c =
+pub bounds-sides-0-2 : goal.bounds-sides-0-2
+bounds-sides-0-2 c =
     level-there c.requires.0.image 0 (omega arith)
 
 pub hint_from-requires : goal.hint_from-requires
@@ -23,7 +23,7 @@ hint_from-requires c =
 
 pub loop-e-init : goal.loop-e-init
 loop-e-init c =
-    (refl, refl, rooting (table_automaton c.args.rows.now c.args.masks.now c.args.coefs.now c.args.first.now) (table_automaton c.args.endrows.now c.args.endmasks.now c.args.endcoefs.now c.args.endfirst.now) c.args.word.now c.args.n c.args.root)
+    (refl, refl, rooting (automaton_of c.args.sides.now.image) (automaton_of c.args.sides.now.end) c.args.word.now c.args.n c.args.root)
 
 pub begin_from-start-requires : goal.begin_from-start-requires
 begin_from-start-requires c =
@@ -38,7 +38,7 @@ judge_from-requires c =
 
 pub returns-then-judge_from : goal.returns-then-judge_from
 returns-then-judge_from c =
-    sym (c.begin_from-start.ensures.sound (table_automaton c.args.rows.now c.args.masks.now c.args.coefs.now c.args.first.now) (table_automaton c.args.endrows.now c.args.endmasks.now c.args.endcoefs.now c.args.endfirst.now) c.args.word.now c.args.n (whole_word c.requires.0) (sym c.judge_from.ensures.0 ∙ c.if-judge_from.true))
+    sym (c.begin_from-start.ensures.sound (automaton_of c.args.sides.now.image) (automaton_of c.args.sides.now.end) c.args.word.now c.args.n (whole_word c.requires.0) (sym c.judge_from.ensures.0 ∙ c.if-judge_from.true))
 
 pub loop-e-smaller : goal.loop-e-smaller
 loop-e-smaller c =

@@ -1,32 +1,24 @@
--- `leveling::grow_state` meets its contract: the tag of the key says which states' rows give its records. Assumes nothing.
-use Rattle.roles.specs.Kept.{role_is, side_is}
+-- `leveling::grow_state` meets its contract: the key says which states' rows give its records. Assumes nothing.
+use Rattle.tables.specs.Slices.{table_is}
+use Rattle.roles.specs.Kept.{role_is}
+use Rattle.roles.specs.declared.Key.TheVariants.{Pair}
+use Rattle.roles.proofs.KeyMoves.{of-states, one-state}
+use Rattle.leveling.specs.Keyed.{RowsOf}
 use Rattle.leveling.proofs.States.{single_of, pair_of}
 use Rattle.leveling.proofs.grow_state.Goals as goal
 
-pub grow_both-requires : goal.grow_both-requires
-grow_both-requires c =
-    record {
-      growing = c.requires.growing;
-      source = (c.requires.source.0, c.requires.source.1.first, c.requires.source.1.second);
-    }
+pub grow_one-requires-clause-source : goal.grow_one-requires-clause-source
+grow_one-requires-clause-source c =
+    one-state (RowsOf (table_is c.args.old.now)) c.in-One.how c.in-One.q c.args.key c.in-One.ensures c.requires.source.first (λ a b. c.requires.source.second)
 
-pub returns-then-tag : goal.returns-then-tag
-returns-then-tag c =
-    record {
-      grew = rw (pair_of (role_is c.args.role) c.args.old.now c.args.oldmasks.now c.args.first.now c.args.key (side_is c.side_of-side.result) c.side_of-side.ensures) at c.grow_both.ensures.grew;
-      kept = c.grow_both.ensures.kept;
-    }
+pub grow_both-requires-clause-source : goal.grow_both-requires-clause-source
+grow_both-requires-clause-source c =
+    of-states (RowsOf (table_is c.args.old.now)) (Pair c.in-Pair.side c.in-Pair.q c.in-Pair.p) c.args.key c.in-Pair.ensures c.requires.source.first (λ a b. c.requires.source.second)
 
-pub grow_one-requires : goal.grow_one-requires
-grow_one-requires c =
-    record {
-      growing = c.requires.growing;
-      source = (c.requires.source.0, c.requires.source.1.first);
-    }
+pub returns-in-One-clause-grew : goal.returns-in-One-clause-grew
+returns-in-One-clause-grew c =
+    rw (single_of (role_is c.args.role) c.args.old.now.rows.now c.args.old.now.masks.now c.args.old.now.first.now c.args.key c.in-One.how c.in-One.q c.in-One.ensures) at c.grow_one.ensures.grew
 
-pub returns : goal.returns
-returns c =
-    record {
-      grew = rw (single_of (role_is c.args.role) c.args.old.now c.args.oldmasks.now c.args.first.now c.args.key c.if-tag.false c.requires.source.1.tag) at c.grow_one.ensures.grew;
-      kept = c.grow_one.ensures.kept;
-    }
+pub returns-in-Pair-clause-grew : goal.returns-in-Pair-clause-grew
+returns-in-Pair-clause-grew c =
+    rw (pair_of (role_is c.args.role) c.args.old.now.rows.now c.args.old.now.masks.now c.args.old.now.first.now c.args.key c.in-Pair.side c.in-Pair.q c.in-Pair.p c.in-Pair.ensures) at c.grow_both.ensures.grew

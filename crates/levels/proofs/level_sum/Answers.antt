@@ -1,22 +1,17 @@
 -- The sum so far and that of the levels left come to the sum of all. Assumes nothing.
-use mathlib.Core.Path.{◌≡◌, ap}
-use Prim.Native.Nat.{◌+◌}
+use mathlib.Core.Path.{ap}
 use native.Mathlib.Omega.{arith}
 use Rattle.automata.specs.Sets.{sum}
-use Rattle.stored.specs.Form.{set_of}
-use Rattle.levels.proofs.LevelLaws.{counts_from, counts-are, sum_on, sum-end}
+use Rattle.levels.proofs.LevelLaws.{whole, sum_on, sum-end}
 use Rattle.levels.proofs.level_sum.Goals as goal
 
-pub loop-left-init : goal.loop-left-init
-loop-left-init c =
-    let e : sum (counts_from c.args.s.now 12 (c.args.n + 1)) ≡ sum (set_of c.args.s.now).counts = ap sum (counts-are c.args.s.now c.args.n c.requires) in
-    (omega (arith, c.requires.room), omega arith, omega arith)
+pub loop-above-init : goal.loop-above-init
+loop-above-init c = (omega arith, omega (arith, ap sum (whole c.args.s.now c.args.n c.requires)))
 
-pub loop-left-preserved : goal.loop-left-preserved
-loop-left-preserved c =
-    let e = sum_on c.args.s.now c.loop-left.at c.loop-left.left c.count_at.result c.loop-left-test.true c.count_at.ensures in
-    (omega arith, omega arith, omega arith)
+pub loop-above-preserved : goal.loop-above-preserved
+loop-above-preserved c =
+    let e = sum_on c.args.s.now c.args.n c.loop-above.above c.count_at.result (omega arith) c.count_at.ensures in
+    (omega arith, omega (arith, e))
 
 pub returns : goal.returns
-returns c =
-    omega (arith, sum-end c.args.s.now c.loop-left.at c.loop-left.left c.loop-left-test.false)
+returns c = omega (arith, sum-end c.args.s.now c.args.n c.loop-above.above (omega arith))

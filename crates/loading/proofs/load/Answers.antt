@@ -1,36 +1,36 @@
 -- `loading::load` meets its contract. Assumes nothing.
-use mathlib.Core.Path.{sym, ◌∙◌}
+use mathlib.Core.Path.{◌≡◌, refl}
 use native.Mathlib.Omega.{arith}
+use borrow.Author.Rules.{rules}
+use Rattle.std.specs.declared.result.Result.TheVariants.{Err}
 use Rattle.stored.proofs.Reading.{Bytes}
-use Rattle.stored.specs.Judge.{judge_set}
-use Rattle.setfile.specs.Answer.{bounds_of, form_read}
+use Rattle.setfile.specs.Answer.{bounds_of}
 use Rattle.setfile.proofs.Taken.{taken}
-use Rattle.loading.proofs.Loaded.{not_taken, ready, roomy, roomy-kept, loaded}
+use Rattle.loading.proofs.Loaded.{ready, roomy, roomy-kept, loaded, taken_value, fault_value, not_good}
 use Rattle.loading.proofs.load.Goals as goal
 
 pub unpack-requires : goal.unpack-requires
 unpack-requires c =
-    let t = taken (bounds_of c.args.bounds) c.args.source c.args.file.now _ (sym c.in-Good.is ∙ c.read_set.ensures) in
-    let bytes : Bytes c.args.file.now = record { byte = λ i. omega (arith, c.shared_slice_known-1.given i) } in
+    let t = taken (bounds_of c.args.bounds) 0 c.args.file.now _ (c.in_ok-form.ensures 0) in
+    let bytes : Bytes c.args.file.now = record { byte = λ i. omega (arith, c.type_inv.file i) } in
+    record { ready = ready t bytes; roomy = roomy t bytes c.requires }
+
+pub returns-in_err-form : goal.returns-in_err-form
+returns-in_err-form c =
+    let e : c.from_residual.result ≡ Err c.in_err-form.field-0.0 = search rules in
     record {
-      ready = ready t bytes;
-      roomy = roomy t bytes c.requires;
+      value = λ source. rw e (fault_value (bounds_of c.args.bounds) source c.args.file.now _ (c.in_err-form.ensures source));
+      holding = λ source Q g. absurd (not_good (bounds_of c.args.bounds) source c.args.file.now _ (c.in_err-form.ensures source) Q g);
+      long = record { rows = refl; masks = refl; coefs = refl; counts = refl; first = refl };
     }
 
-pub returns-in-Good : goal.returns-in-Good
-returns-in-Good c =
-    let e = sym c.in-Good.is ∙ c.read_set.ensures in
-    let t = taken (bounds_of c.args.bounds) c.args.source c.args.file.now _ e in
-    let bytes : Bytes c.args.file.now = record { byte = λ i. omega (arith, c.shared_slice_known-1.given i) } in
+pub returns : goal.returns
+returns c =
+    let bytes : Bytes c.args.file.now = record { byte = λ i. omega (arith, c.type_inv.file i) } in
     record {
-      value = e;
-      holding = λ Q g. loaded t bytes (roomy t bytes (roomy-kept c.requires c.rows-1.given c.masks-1.given c.coefs-1.given c.counts-1.given c.first-1.given)) c.unpack.ensures Q g;
-    }
-
-pub returns-in-Bad : goal.returns-in-Bad
-returns-in-Bad c =
-    let e = sym c.in-Bad.is ∙ c.read_set.ensures in
-    record {
-      value = e;
-      holding = λ Q g. absurd (not_taken (judge_set (bounds_of c.args.bounds) c.args.source c.args.file.now) (form_read c.args.file.now) _ Q e g);
+      value = λ source. taken_value (taken (bounds_of c.args.bounds) source c.args.file.now _ (c.in_ok-form.ensures source));
+      holding = λ source Q g.
+          let t = taken (bounds_of c.args.bounds) source c.args.file.now _ (c.in_ok-form.ensures source) in
+          loaded t bytes (roomy t bytes (roomy-kept c.requires c.unpack.ensures.long)) c.unpack.ensures.unpacked Q g;
+      long = c.unpack.ensures.long;
     }

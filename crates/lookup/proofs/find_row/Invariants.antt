@@ -7,7 +7,3 @@ use Rattle.lookup.proofs.find_row.Given as goal
 abbrev pub invariant-loop-i : goal.invariant-loop-i
 invariant-loop-i l =
     row_with l.masks l.choice l.i (l.to - l.i) ≡ row_with l.masks l.choice l.from (l.to - l.from)
-
-abbrev pub decreases-loop-i : goal.decreases-loop-i
-decreases-loop-i l =
-    l.to - l.i

@@ -3,9 +3,9 @@ use mathlib.Core.Path.{◌≡◌, refl}
 use Prim.Native.Nat.{ℕ, ◌+◌, ◌*◌, ◌/◌, ◌%◌, ◌^◌, ◌<◌}
 use native.Mathlib.Omega.{arith}
 use lib.ListN.{get_or}
-use Rattle.masks.proofs.NextLaws.{no_next, is-next, next_small}
+use Rattle.masks.proofs.NextLaws.{no_next, is-next}
 use Rattle.meeting.proofs.Places.{small_product}
-use Rattle.meeting.proofs.NextLaws.{start, passed, found, none_left}
+use Rattle.meeting.proofs.NextLaws.{start, passed, found, found_past, none_left}
 use Rattle.meeting.proofs.next_met.Goals as goal
 
 pub overflow_mul-row : goal.overflow_mul-row
@@ -35,7 +35,7 @@ returns-then-e-to c =
     let some : 0 < word / 2 ^ (c.loop-e.e % 32) = omega (arith, c.if-rest-ne0.true) in
     let small : word < 2 ^ 32 = omega (arith, c.shared_slice_known-in-loop-e-1.given (c.args.s * c.args.wide + c.loop-e.e / 32)) in
     found c.args.wide c.args.met.now c.args.s c.loop-e.invariant.2 (is-next word (c.loop-e.e % 32) some small c.least_choice-e.ensures.0) (omega arith) c.args.stop
-    (next_small word (c.loop-e.e % 32) some small c.least_choice-e.ensures.0) (omega (arith, c.if-e-to.true, c.loop-e.invariant.1))
+    (omega (arith, c.if-e-to.true, c.loop-e.invariant.1))
 
 pub returns-else-e-to : goal.returns-else-e-to
 returns-else-e-to c =
@@ -43,8 +43,8 @@ returns-else-e-to c =
     let some : 0 < word / 2 ^ (c.loop-e.e % 32) = omega (arith, c.if-rest-ne0.true) in
     let small : word < 2 ^ 32 = omega (arith, c.shared_slice_known-in-loop-e-1.given (c.args.s * c.args.wide + c.loop-e.e / 32)) in
     let at : c.loop-e.e + c.least_choice-e.result ≡ c.loop-e.e / 32 * 32 + (c.loop-e.e % 32 + c.least_choice-e.result) = omega arith in
-    none_left c.args.wide c.args.met.now c.args.s
-    (passed c.args.wide c.args.met.now c.args.s c.loop-e.invariant.2 (is-next word (c.loop-e.e % 32) some small c.least_choice-e.ensures.0) at) c.args.stop (omega (arith, c.if-e-to.false, c.loop-e.invariant.1))
+    found_past c.args.wide c.args.met.now c.args.s c.loop-e.invariant.2 (is-next word (c.loop-e.e % 32) some small c.least_choice-e.ensures.0) at
+    c.args.stop (omega (arith, c.if-e-to.false, c.loop-e.invariant.1))
 
 pub loop-e-smaller : goal.loop-e-smaller
 loop-e-smaller c =
@@ -53,7 +53,7 @@ loop-e-smaller c =
 pub loop-e-preserved : goal.loop-e-preserved
 loop-e-preserved c =
     let word : ℕ = get_or c.args.met.now (c.args.s * c.args.wide + c.loop-e.e / 32) 0 in
-    (c.loop-e.invariant.0, c.loop-e.invariant.1, passed c.args.wide c.args.met.now c.args.s c.loop-e.invariant.2 (no_next word (c.loop-e.e % 32) (omega arith) c.if-rest-ne0.false) (omega arith))
+    (c.loop-e.invariant.0, c.loop-e.invariant.1, passed c.args.wide c.args.met.now c.args.s c.loop-e.invariant.2 (no_next word (c.loop-e.e % 32) c.if-rest-ne0.false) (omega arith))
 
 pub returns : goal.returns
 returns c =

@@ -12,13 +12,9 @@ use Rattle.moving.specs.Moves.{grow_alts}
 use Rattle.moving.proofs.Meetings.{meetings}
 use Rattle.moving.proofs.grow_pair.Given as goal
 
-abbrev pub invariant-loop-left : goal.invariant-loop-left
-invariant-loop-left l =
-    Going l.rows l.masks l.keys l.link l.heads l.held l.most (grow_alts l.most l.state (meetings (pair_kids (role_is l.role) (side_is l.side)) l.old l.oldmasks l.qfrom l.qto l.pfrom l.pto l.steps l.left))
-    (grow_alts l.most l.state (together (pair_kids (role_is l.role) (side_is l.side)) (alts_from l.old l.oldmasks l.qfrom (l.qto - l.qfrom)) (alts_from l.old l.oldmasks l.pfrom (l.pto - l.pfrom))) (level_in l.initial.rows l.initial.masks l.initial.keys l.initial.held))
-    × Kept l.initial.rows l.initial.masks l.initial.keys l.initial.link l.initial.heads l.rows l.masks l.keys l.link l.heads
-    × ((l.left ≡ 0 → ⊥) → (l.qfrom < l.qto) × (l.pfrom < l.pto))
-
-abbrev pub decreases-loop-left : goal.decreases-loop-left
-decreases-loop-left l =
-    l.steps
+abbrev pub invariant-loop-step : goal.invariant-loop-step
+invariant-loop-step l =
+    Going l.level (grow_alts l.fn.level.most l.state (meetings (pair_kids (role_is l.role) (side_is l.side)) l.old.rows.now l.old.masks.now l.qfrom l.qto l.pfrom l.pto (32 - l._step) l.left))
+    (grow_alts l.fn.level.most l.state (together (pair_kids (role_is l.role) (side_is l.side)) (alts_from l.old.rows.now l.old.masks.now l.qfrom (l.qto - l.qfrom)) (alts_from l.old.rows.now l.old.masks.now l.pfrom (l.pto - l.pfrom)))
+    (level_in l.fn.level))
+    × Kept l.fn.level l.level × ((l.left ≡ 0 → ⊥) → (l.qfrom < l.qto) × (l.pfrom < l.pto))

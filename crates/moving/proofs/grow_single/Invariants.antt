@@ -10,10 +10,6 @@ use Rattle.moving.proofs.grow_single.Given as goal
 
 abbrev pub invariant-loop-i : goal.invariant-loop-i
 invariant-loop-i l =
-    Going l.rows l.masks l.keys l.link l.heads l.held l.most (grow_alts l.most l.state (map_alt (single_kids (role_is l.role) l.tag) (alts_from l.old l.oldmasks l.i (l.to - l.i))))
-    (grow_alts l.most l.state (map_alt (single_kids (role_is l.role) l.tag) (alts_from l.old l.oldmasks l.from (l.to - l.from))) (level_in l.initial.rows l.initial.masks l.initial.keys l.initial.held))
-    × Kept l.initial.rows l.initial.masks l.initial.keys l.initial.link l.initial.heads l.rows l.masks l.keys l.link l.heads
-
-abbrev pub decreases-loop-i : goal.decreases-loop-i
-decreases-loop-i l =
-    l.to - l.i
+    Going l.level (grow_alts l.fn.level.most l.state (map_alt (single_kids (role_is l.role) l.how) (alts_from l.old.rows.now l.old.masks.now l.i (l.to - l.i))))
+    (grow_alts l.fn.level.most l.state (map_alt (single_kids (role_is l.role) l.how) (alts_from l.old.rows.now l.old.masks.now l.from (l.to - l.from))) (level_in l.fn.level))
+    × Kept l.fn.level l.level

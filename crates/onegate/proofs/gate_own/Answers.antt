@@ -1,5 +1,4 @@
 -- `onegate::gate_own` meets its contract: arrays of the named sizes have room for every set, and its bounds are those of every set. Assumes nothing.
--- ---- far places by name
 use mathlib.Core.Path.{ap, ◌∙◌}
 use Rattle.replies.specs.Replied.{reply_from}
 use Rattle.gating.specs.Gated.{length_reply}

@@ -13,21 +13,24 @@ use Rattle.packing.proofs.pack.Goals as goal
 
 pub put_lfs-requires : goal.put_lfs-requires
 put_lfs-requires c =
-    (search rules, c.requires.has_rows)
+    (search rules, rw (c.from-inner.ensures, c.from-leaves.ensures) c.requires.has_rows)
 
 pub returns : goal.returns
 returns c =
-    let head = head_bytes c.args.n c.args.k c.args.states c.args.inner c.args.leaves in
-    let lvs = lvs_of c.args.n c.args.counts.now in
-    let trs = trs_of c.args.rows.now c.args.masks.now c.args.inner in
-    let lfs = lfs_of c.args.rows.now c.args.masks.now c.args.coefs.now c.args.inner c.args.leaves in
-    let f = laid c.args.n c.args.k c.args.states c.args.inner c.args.leaves c.args.rows.now c.args.masks.now c.args.coefs.now c.args.counts.now c.requires.n_in_bounds.0 c.requires.n_in_bounds.1 in
-    let at_trs = f.at_trs in
-    let at_lfs = f.at_lfs in
-    let levels = lent_on c.args.out.now head lvs refl (omega arith) c.put_hd.ensures (rw c.levels_of-levels.ensures at c.put_levels.ensures) in
-    let inner = lent_on c.args.out.now (head ++ lvs) trs (omega arith) (omega arith) levels c.put_trs.ensures in
-    let leaves = lent_on c.args.out.now ((head ++ lvs) ++ trs) lfs (omega arith) (omega arith) inner c.put_lfs.ensures in
+    let out = c.args.out.now in
+    let f = c.args.form in
+    let T = c.args.table.now in
+    let head = head_bytes f.n f.k f.states f.inner f.leaves in
+    let lvs = lvs_of f.n T.counts.now in
+    let trs = trs_of T.rows.now T.masks.now f.inner in
+    let lfs = lfs_of T.rows.now T.masks.now T.coefs.now f.inner f.leaves in
+    let l = laid f.n f.k f.states f.inner f.leaves T.rows.now T.masks.now T.coefs.now T.counts.now c.requires.n_in_bounds.0 c.requires.n_in_bounds.1 in
+    let at_trs = l.at_trs in
+    let at_lfs = l.at_lfs in
+    let levels = lent_on out head lvs refl (omega arith) c.put_hd.ensures (rw c.levels_of-levels.ensures at c.put_levels.ensures) in
+    let inner = lent_on out (head ++ lvs) trs (omega arith) (omega arith) levels (rw c.from-inner.ensures at c.put_trs.ensures) in
+    let leaves = lent_on out ((head ++ lvs) ++ trs) lfs (omega arith) (omega arith) inner (rw (c.from-inner.ensures, c.from-leaves.ensures) at c.put_lfs.ensures) in
     record {
-      value = omega (arith, f.long);
-      out_after = leaves ∙ ap (λ (bytes : List ℕ). at_front bytes c.args.out.now) f.parts;
+      value = omega (arith, l.long);
+      out_after = rw c.from-inner.ensures (leaves ∙ ap (λ (bytes : List ℕ). at_front bytes out) l.parts);
     }

@@ -13,6 +13,6 @@ use Rattle.packing.proofs.put_lf_row.Goals as goal
 pub returns : goal.returns
 unfolding lf_row leaf_row
 returns c =
-    let start = start_bytes 76 70 (get_or c.args.rows.now (c.args.i * 3) 0) (get_or c.args.masks.now c.args.i 0) in
-    lent_on c.args.out.now start (amp_bytes (amp_from c.args.coefs.now (c.wide-leaf.result * 4))) refl (omega arith) c.put_start.ensures c.put_amp.ensures
-    ∙ simp c.wide-leaf.ensures.0
+    let start = start_bytes 76 70 (get_or c.args.table.now.rows.now (c.args.i * 3) 0) (get_or c.args.table.now.masks.now c.args.i 0) in
+    lent_on c.args.out.now start (amp_bytes (amp_from c.args.table.now.coefs.now (c.from-leaf.result * 4))) refl (omega arith) c.put_start.ensures c.put_amp.ensures
+    ∙ simp c.from-leaf.ensures

@@ -10,7 +10,7 @@ use Rattle.packing.proofs.put_lfs.Goals as goal
 
 pub loop-i-init : goal.loop-i-init
 loop-i-init c =
-    begin 24 lf_bytes lf_sized (lf_row c.args.rows.now c.args.masks.now c.args.coefs.now) c.args.inner c.args.out.now c.args.leaves c.requires.0
+    begin 24 lf_bytes lf_sized (lf_row c.args.table.now.rows.now c.args.table.now.masks.now c.args.table.now.coefs.now) c.args.inner c.args.out.now c.args.leaves c.requires.0
 
 pub put_lf_row-requires : goal.put_lf_row-requires
 put_lf_row-requires c =
@@ -18,9 +18,9 @@ put_lf_row-requires c =
 
 pub loop-i-preserved : goal.loop-i-preserved
 loop-i-preserved c =
-    next 24 lf_bytes lf_sized (lf_row c.args.rows.now c.args.masks.now c.args.coefs.now) c.args.inner c.loop-i.invariant (c.args.inner + c.loop-i.i) c.loop-i-test.true refl c.put_lf_row.ensures
+    next 24 lf_bytes lf_sized (lf_row c.args.table.now.rows.now c.args.table.now.masks.now c.args.table.now.coefs.now) c.args.inner c.loop-i.invariant (c.args.inner + c.loop-i.i) c.loop-i-test.true refl c.put_lf_row.ensures
 
 pub returns : goal.returns
 unfolding lf_rows
 returns c =
-    all 24 lf_bytes lf_sized (lf_row c.args.rows.now c.args.masks.now c.args.coefs.now) c.args.inner c.loop-i.invariant c.loop-i-test.false
+    all 24 lf_bytes lf_sized (lf_row c.args.table.now.rows.now c.args.table.now.masks.now c.args.table.now.coefs.now) c.args.inner c.loop-i.invariant c.loop-i-test.false

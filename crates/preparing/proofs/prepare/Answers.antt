@@ -1,34 +1,38 @@
--- `preparing::prepare` meets its contract. Assumes nothing.
-use mathlib.Core.Path.{sym, ap, ◌∙◌}
-use Rattle.stored.specs.Refusal.{start_source, good}
-use Rattle.stored.specs.Form.{set_of}
-use Rattle.stored.specs.Judge.{judge_set}
-use Rattle.setfile.specs.Answer.{bounds_of, form_read}
-use Rattle.setfile.proofs.Taken.{taken, turned_down}
-use Rattle.loading.proofs.Loaded.{form-taken}
-use Rattle.preparing.specs.Prepared.{prepared_of, files_judged}
-use Rattle.preparing.proofs.Preparations.{never, refused-answer, files_no, files_yes, rest-start}
+-- `preparing::prepare` meets its contract: each stage's answer is that of the definition. Assumes nothing.
+use mathlib.Core.Path.{ap}
+use borrow.Author.Rules.{rules}
+use Rattle.std.specs.declared.result.Result.TheVariants.{Err}
+use Rattle.refusals.specs.declared.Source.TheVariants.{Start, End}
+use Rattle.setfile.specs.Answer.{bounds_of}
+use Rattle.preparing.proofs.Preparations.{as_long, never, handed-on, staged, start_refused, circuit_refused, end_refused, other-qubits, prepared, held}
 use Rattle.preparing.proofs.prepare.Goals as goal
 
-pub returns-in-Bad : goal.returns-in-Bad
-returns-in-Bad c =
-    let b = bounds_of c.args.bounds in
-    let h = turned_down (judge_set b start_source c.args.start.now) (form_read c.args.start.now) _ (sym c.in-Bad.is ∙ c.load.ensures.value) in
-    let j = files_no b (bounds_of c.args.endbounds) c.args.start.now c.args.circuit.now c.args.end.now _ h in
-    let J = files_judged b (bounds_of c.args.endbounds) c.args.start.now c.args.circuit.now c.args.end.now in
-    record {
-      value = refused-answer _ J j;
-      holding = λ R g. absurd (never J _ R (sym j) g);
-    }
+pub returns-in_err-form : goal.returns-in_err-form
+returns-in_err-form c =
+    let k = start_refused (bounds_of c.args.bounds) (bounds_of c.args.endbounds) c.args.start.now c.args.circuit.now c.args.end.now _ (staged c.load.result c.map_err.result Start c.in_err-form.was (search rules) (c.load.ensures.value 1)) in
+    record { value = handed-on (search rules) k; holding = λ J g. absurd (never k J g); long = (c.load.ensures.long, as_long) }
 
-pub returns-in-Good : goal.returns-in-Good
-returns-in-Good c =
-    let b = bounds_of c.args.bounds in
-    let eb = bounds_of c.args.endbounds in
-    let Q = set_of c.args.start.now in
-    let t = taken b start_source c.args.start.now _ (sym c.in-Good.is ∙ c.load.ensures.value) in
-    let f = files_yes b eb c.args.start.now c.args.circuit.now c.args.end.now Q t.good in
+pub returns-in_err-count : goal.returns-in_err-count
+returns-in_err-count c =
+    let k = circuit_refused (bounds_of c.args.bounds) (bounds_of c.args.endbounds) c.args.start.now c.args.circuit.now c.args.end.now c.in_ok-form.form (staged c.load.result c.map_err.result Start c.in_ok-form.was (search rules) (c.load.ensures.value 1)) _ c.in_err-count.ensures in
+    record { value = handed-on (search rules) k; holding = λ J g. absurd (never k J g); long = (c.load.ensures.long, as_long) }
+
+pub returns-in_err-endform : goal.returns-in_err-endform
+returns-in_err-endform c =
+    let k = end_refused (bounds_of c.args.bounds) (bounds_of c.args.endbounds) c.args.start.now c.args.circuit.now c.args.end.now c.in_ok-form.form (staged c.load.result c.map_err.result Start c.in_ok-form.was (search rules) (c.load.ensures.value 1)) c.in_ok-count.count c.in_ok-count.ensures _ (staged c.load-2.result c.map_err-2.result End c.in_err-endform.was (search rules) (c.load-2.ensures.value 3)) in
+    record { value = handed-on (search rules) k; holding = λ J g. absurd (never k J g); long = (c.load.ensures.long, c.load-2.ensures.long) }
+
+pub returns-then-endform-form : goal.returns-then-endform-form
+returns-then-endform-form c =
+    let k = other-qubits (bounds_of c.args.bounds) (bounds_of c.args.endbounds) c.args.start.now c.args.circuit.now c.args.end.now c.in_ok-form.form (staged c.load.result c.map_err.result Start c.in_ok-form.was (search rules) (c.load.ensures.value 1)) c.in_ok-count.count c.in_ok-count.ensures c.in_ok-endform.endform (staged c.load-2.result c.map_err-2.result End c.in_ok-endform.was (search rules) (c.load-2.ensures.value 3)) c.if-endform-form.true in
+    record { value = handed-on (ap Err c.alone.ensures) k; holding = λ J g. absurd (never k J g); long = (c.load.ensures.long, c.load-2.ensures.long) }
+
+pub returns : goal.returns
+returns c =
+    let x = staged c.load.result c.map_err.result Start c.in_ok-form.was (search rules) (c.load.ensures.value 1) in
+    let z = staged c.load-2.result c.map_err-2.result End c.in_ok-endform.was (search rules) (c.load-2.ensures.value 3) in
     record {
-      value = c.prepare_rest.ensures.value Q (form-taken t) ∙ ap prepared_of f;
-      holding = λ J g. (c.load.ensures.holding J.start (t.good ∙ ap good (rest-start eb Q c.args.circuit.now c.args.end.now J (f ∙ g))), c.prepare_rest.ensures.holding Q J (form-taken t) (f ∙ g));
+      value = prepared (bounds_of c.args.bounds) (bounds_of c.args.endbounds) c.args.start.now c.args.circuit.now c.args.end.now c.in_ok-form.form x c.in_ok-count.count c.in_ok-count.ensures c.in_ok-endform.endform z c.if-endform-form.false;
+      holding = held (bounds_of c.args.bounds) (bounds_of c.args.endbounds) c.args.start.now c.args.circuit.now c.args.end.now c.in_ok-form.form x c.in_ok-count.count c.in_ok-count.ensures c.in_ok-endform.endform z c.if-endform-form.false (c.load.ensures.holding 1) (c.load-2.ensures.holding 3);
+      long = (c.load.ensures.long, c.load-2.ensures.long);
     }

@@ -9,22 +9,22 @@ use Rattle.reaching.proofs.ends_all.Goals as goal
 
 pub loop-s-init : goal.loop-s-init
 loop-s-init c =
-    (omega arith, omega arith, all_none (if_reached (λ (q : ℕ). is_some (transition_row c.args.masks.now c.args.first.now q c.args.c)) c.args.reached.now) c.args.from (c.args.from - c.args.from) (omega arith))
+    (all_none (if_reached (λ (q : ℕ). is_some (transition_row c.args.table.now.masks.now c.args.table.now.first.now q c.args.c)) c.args.reached.now) c.args.from (c.args.from - c.args.from) (omega arith))
 
 pub ends-requires : goal.ends-requires
 ends-requires c =
-    (c.requires.0 c.loop-s.s c.loop-s.invariant.0 c.loop-s-test.true, omega (arith, c.loop-s-test.true, c.requires.1), c.requires.2)
+    (c.requires.0 c.loop-s.s c.loop-s.auto.s c.loop-s-test.true, omega (arith, c.loop-s-test.true, c.requires.1), c.requires.2)
 
 pub returns-then-not-ends : goal.returns-then-not-ends
 unfolding all_reached
 returns-then-not-ends c =
-    all-stops (if_reached (λ (q : ℕ). is_some (transition_row c.args.masks.now c.args.first.now q c.args.c)) c.args.reached.now) c.args.from c.loop-s.s c.args.to c.loop-s.invariant.0 c.loop-s-test.true (sym c.ends.ensures ∙ c.if-not-ends.true)
+    all-stops (if_reached (λ (q : ℕ). is_some (transition_row c.args.table.now.masks.now c.args.table.now.first.now q c.args.c)) c.args.reached.now) c.args.from c.loop-s.s c.args.to c.loop-s.auto.s c.loop-s-test.true (sym c.ends.ensures ∙ c.if-not-ends.true)
 
 pub loop-s-preserved : goal.loop-s-preserved
 loop-s-preserved c =
-    (omega arith, omega arith, all_on (if_reached (λ (q : ℕ). is_some (transition_row c.args.masks.now c.args.first.now q c.args.c)) c.args.reached.now) c.args.from c.loop-s.s c.loop-s.invariant.0 c.loop-s.invariant.2 (sym c.ends.ensures ∙ c.if-not-ends.false))
+    (all_on (if_reached (λ (q : ℕ). is_some (transition_row c.args.table.now.masks.now c.args.table.now.first.now q c.args.c)) c.args.reached.now) c.args.from c.loop-s.s c.loop-s.auto.s c.loop-s.invariant (sym c.ends.ensures ∙ c.if-not-ends.false))
 
 pub returns : goal.returns
 unfolding all_reached
 returns c =
-    all_done (if_reached (λ (q : ℕ). is_some (transition_row c.args.masks.now c.args.first.now q c.args.c)) c.args.reached.now) c.args.from c.loop-s.s c.args.to c.loop-s-test.false c.loop-s.invariant.1 c.loop-s.invariant.2
+    all_done (if_reached (λ (q : ℕ). is_some (transition_row c.args.table.now.masks.now c.args.table.now.first.now q c.args.c)) c.args.reached.now) c.args.from c.loop-s.s c.args.to c.loop-s-test.false c.loop-s.auto.s-end c.loop-s.invariant

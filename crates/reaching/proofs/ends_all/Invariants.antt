@@ -9,8 +9,4 @@ use Rattle.reaching.proofs.ends_all.Given as goal
 
 abbrev pub invariant-loop-s : goal.invariant-loop-s
 invariant-loop-s l =
-    (l.from ≤ l.s) × (l.s ≤ max l.from l.to) × (all_in (if_reached (λ (q : ℕ). is_some (transition_row l.masks l.first q l.c)) l.reached) l.from (l.s - l.from) ≡ true)
-
-abbrev pub decreases-loop-s : goal.decreases-loop-s
-decreases-loop-s l =
-    l.to - l.s
+    (all_in (if_reached (λ (q : ℕ). is_some (transition_row l.table.masks.now l.table.first.now q l.c)) l.reached) l.from (l.s - l.from) ≡ true)

@@ -11,8 +11,8 @@ is_reached-requires c =
 
 pub returns-then-not-is_reached : goal.returns-then-not-is_reached
 returns-then-not-is_reached c =
-    λ from to ready. spread_idle (kids_in c.args.rows.now c.args.masks.now c.args.first.now c.args.c) c.args.reached.now from to c.args.s (sym c.is_reached.ensures ∙ c.if-not-is_reached.true)
+    λ from to ready. spread_idle (kids_in c.args.table.now.rows.now c.args.table.now.masks.now c.args.table.now.first.now c.args.c) c.args.reached.now from to c.args.s (sym c.is_reached.ensures ∙ c.if-not-is_reached.true)
 
 pub returns : goal.returns
 returns c =
-    λ from to ready. spread_here (kids_in c.args.rows.now c.args.masks.now c.args.first.now c.args.c) (sym c.is_reached.ensures ∙ c.if-not-is_reached.false) (c.reach_moved.ensures from to ready)
+    λ from to ready. spread_here (kids_in c.args.table.now.rows.now c.args.table.now.masks.now c.args.table.now.first.now c.args.c) (sym c.is_reached.ensures ∙ c.if-not-is_reached.false) (c.reach_moved.ensures from to ready)

@@ -9,4 +9,4 @@ reach_states-requires c =
 
 pub returns : goal.returns
 returns c =
-    gone (kids_in c.args.rows.now c.args.masks.now c.args.first.now c.args.c) c.args.from c.reach_none.ensures (c.reach_states.ensures c.args.till (stage-again c.reach_none.auto.reached c.requires.0))
+    gone (kids_in c.args.table.now.rows.now c.args.table.now.masks.now c.args.table.now.first.now c.args.c) c.args.from c.reach_none.ensures (c.reach_states.ensures c.args.till (stage-again c.reach_none.auto.reached c.requires.0))

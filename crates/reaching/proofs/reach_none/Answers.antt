@@ -1,15 +1,6 @@
--- Cell after cell becomes zero. Assumes nothing.
-use Rattle.reaching.proofs.ReachLaws.{clear_begin, clear_next, clear_all}
+-- The cells filled are zero. Assumes nothing.
+use Rattle.reaching.proofs.ReachLaws.{emptied}
 use Rattle.reaching.proofs.reach_none.Goals as goal
 
-pub loop-s-init : goal.loop-s-init
-loop-s-init c =
-    clear_begin c.args.reached.now c.args.from c.args.to
-
-pub loop-s-preserved : goal.loop-s-preserved
-loop-s-preserved c =
-    clear_next c.loop-s.invariant c.requires c.loop-s-test.true
-
-pub returns : goal.returns
-returns c =
-    clear_all c.loop-s.invariant c.loop-s-test.false
+pub returns-then-from-to : goal.returns-then-from-to
+returns-then-from-to c = emptied _ _ _ _ c.if-from-to.true c.requires (c.fill.ensures.after (λ y e. e))

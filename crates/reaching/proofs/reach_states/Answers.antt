@@ -8,30 +8,29 @@ use Rattle.reaching.proofs.reach_states.Goals as goal
 
 pub loop-s-init : goal.loop-s-init
 loop-s-init c =
-    (omega arith, omega arith, refl, λ till stage. walk_none (kids_in c.args.rows.now c.args.masks.now c.args.first.now c.args.c) c.args.reached.now c.args.from c.args.to till)
+    (omega arith, refl, λ till stage. walk_none (kids_in c.args.table.now.rows.now c.args.table.now.masks.now c.args.table.now.first.now c.args.c) c.args.reached.now c.args.from c.args.to till)
 
 pub reach_from-requires : goal.reach_from-requires
 reach_from-requires c =
-    ((c.args.to, c.requires.0.0, ready-again c.loop-s.invariant.2 (stage_state c.requires.0.1 c.loop-s.s c.loop-s.invariant.0 c.loop-s-test.true)), c.requires.1)
+    ((c.args.to, c.requires.0.0, ready-again c.loop-s.invariant.1 (stage_state c.requires.0.1 c.loop-s.s c.loop-s.auto.s c.loop-s-test.true)), c.requires.1)
 
 pub returns-then-not-reach_from : goal.returns-then-not-reach_from
 returns-then-not-reach_from c =
     λ till stage.
-    let r = stage_state stage c.loop-s.s c.loop-s.invariant.0 c.loop-s-test.true in
-    walk_stops (kids_in c.args.rows.now c.args.masks.now c.args.first.now c.args.c) c.args.reached.now c.args.from c.args.to till c.loop-s.s c.loop-s.invariant.0 c.loop-s-test.true (c.loop-s.invariant.3 till stage)
-    (c.reach_from.ensures c.args.to till (ready-again c.loop-s.invariant.2 r)) c.if-not-reach_from.true
+    let r = stage_state stage c.loop-s.s c.loop-s.auto.s c.loop-s-test.true in
+    walk_stops (kids_in c.args.table.now.rows.now c.args.table.now.masks.now c.args.table.now.first.now c.args.c) c.args.reached.now c.args.from c.args.to till c.loop-s.s c.loop-s.auto.s c.loop-s-test.true (c.loop-s.invariant.2 till stage)
+    (c.reach_from.ensures c.args.to till (ready-again c.loop-s.invariant.1 r)) c.if-not-reach_from.true
 
 pub loop-s-preserved : goal.loop-s-preserved
 loop-s-preserved c = (
-  omega arith,
-  omega arith,
+  omega (arith, c.loop-s-test.true),
   search rules,
   λ till stage.
-      let r = stage_state stage c.loop-s.s c.loop-s.invariant.0 c.loop-s-test.true in
-      walk_more (kids_in c.args.rows.now c.args.masks.now c.args.first.now c.args.c) c.args.reached.now c.args.from c.args.to till c.loop-s.s c.loop-s.invariant.0 c.loop-s-test.true (c.loop-s.invariant.3 till stage)
-      (c.reach_from.ensures c.args.to till (ready-again c.loop-s.invariant.2 r)) c.if-not-reach_from.false,
+      let r = stage_state stage c.loop-s.s c.loop-s.auto.s c.loop-s-test.true in
+      walk_more (kids_in c.args.table.now.rows.now c.args.table.now.masks.now c.args.table.now.first.now c.args.c) c.args.reached.now c.args.from c.args.to till c.loop-s.s c.loop-s.auto.s c.loop-s-test.true (c.loop-s.invariant.2 till stage)
+      (c.reach_from.ensures c.args.to till (ready-again c.loop-s.invariant.1 r)) c.if-not-reach_from.false,
 )
 
 pub returns : goal.returns
 returns c =
-    λ till stage. walk_all (kids_in c.args.rows.now c.args.masks.now c.args.first.now c.args.c) c.args.reached.now c.args.from c.args.to till c.loop-s.s c.loop-s-test.false c.loop-s.invariant.1 (c.loop-s.invariant.3 till stage)
+    λ till stage. walk_all (kids_in c.args.table.now.rows.now c.args.table.now.masks.now c.args.table.now.first.now c.args.c) c.args.reached.now c.args.from c.args.to till c.loop-s.s c.loop-s-test.false c.loop-s.invariant.0 (c.loop-s.invariant.2 till stage)

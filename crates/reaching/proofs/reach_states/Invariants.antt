@@ -9,9 +9,5 @@ use Rattle.reaching.proofs.reach_states.Given as goal
 
 abbrev pub invariant-loop-s : goal.invariant-loop-s
 invariant-loop-s l =
-    (l.from ≤ l.s) × (l.s ≤ max l.from l.to) × (length l.reached ≡ length l.initial.reached)
-    × ((till : ℕ) → Stage l.rows l.masks l.first (length l.initial.reached) l.from l.to till → Walked (kids_in l.rows l.masks l.first l.c) l.initial.reached l.from l.to till l.s l.reached true)
-
-abbrev pub decreases-loop-s : goal.decreases-loop-s
-decreases-loop-s l =
-    l.to - l.s
+    (l.s ≤ max l.from l.to) × (length l.reached ≡ length l.initial.reached)
+    × ((till : ℕ) → Stage l.table.rows.now l.table.masks.now l.table.first.now (length l.initial.reached) l.from l.to till → Walked (kids_in l.table.rows.now l.table.masks.now l.table.first.now l.c) l.initial.reached l.from l.to till l.s l.reached true)

@@ -14,8 +14,4 @@ F masks first reached d = if_reached (has_choice masks first d) reached
 
 abbrev pub invariant-loop-s : goal.invariant-loop-s
 invariant-loop-s l =
-    (l.from ≤ l.s) × (l.s ≤ max l.from l.to) × ((d : ℕ) → has l.left d ≡ has 4294967295 d && all_in (F l.masks l.first l.reached d) l.from (l.s - l.from))
-
-abbrev pub decreases-loop-s : goal.decreases-loop-s
-decreases-loop-s l =
-    l.to - l.s
+    (l.s ≤ max l.from l.to) × ((d : ℕ) → has l.left d ≡ has 4294967295 d && all_in (F l.table.masks.now l.table.first.now l.reached d) l.from (l.s - l.from))

@@ -13,11 +13,11 @@ and-true false = refl
 
 pub returns-then-not-is_reached : goal.returns-then-not-is_reached
 returns-then-not-is_reached c =
-    λ d. sym (ap (λ (b : Bool). has c.args.mask d && cond b (has_choice c.args.masks.now c.args.first.now d c.args.s) true) (sym c.is_reached.ensures ∙ c.if-not-is_reached.true) ∙ and-true (has c.args.mask d))
+    λ d. sym (ap (λ (b : Bool). has c.args.mask d && cond b (has_choice c.args.table.now.masks.now c.args.table.now.first.now d c.args.s) true) (sym c.is_reached.ensures ∙ c.if-not-is_reached.true) ∙ and-true (has c.args.mask d))
 
 pub returns : goal.returns
 returns c =
     λ d.
     has-and c.args.mask c.choices_of.result d
     ∙ ap (λ (x : ℕ). has c.args.mask d && has x d) c.choices_of.ensures
-    ∙ sym (ap (λ (b : Bool). has c.args.mask d && cond b (has_choice c.args.masks.now c.args.first.now d c.args.s) true) (sym c.is_reached.ensures ∙ c.if-not-is_reached.false))
+    ∙ sym (ap (λ (b : Bool). has c.args.mask d && cond b (has_choice c.args.table.now.masks.now c.args.table.now.first.now d c.args.s) true) (sym c.is_reached.ensures ∙ c.if-not-is_reached.false))

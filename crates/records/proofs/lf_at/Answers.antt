@@ -13,5 +13,5 @@ returns c =
       bits_kept c.i32_at-c.result (sfits_of c.i32_at-c.type_inv) ∙ c.i32_at-c.ensures,
       bits_kept c.i32_at-b.result (sfits_of c.i32_at-b.type_inv) ∙ c.i32_at-b.ensures,
       bits_kept c.i32_at-a.result (sfits_of c.i32_at-a.type_inv) ∙ c.i32_at-a.ensures,
-      c.key_at-key.ensures,
+      c.key_at-state.ensures,
     )

@@ -5,4 +5,4 @@ use Rattle.records.proofs.tr_at.Goals as goal
 pub returns : goal.returns
 unfolding key_read tr_read
 returns c =
-    simp (c.u16_at-right.ensures, c.u16_at-left.ensures, c.key_at-key.ensures)
+    simp (c.u16_at-right.ensures, c.u16_at-left.ensures, c.key_at-state.ensures)

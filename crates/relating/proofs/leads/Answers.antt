@@ -18,14 +18,6 @@ pub returns-then-plane_leads : goal.returns-then-plane_leads
 returns-then-plane_leads c =
     λ word at is. sym (below-is _ _ c.loop-j.j c.loop-j-test.true (sym (c.plane_leads.ensures word at is) ∙ c.if-plane_leads.true))
 
-pub overflow_add-j : goal.overflow_add-j
-overflow_add-j c =
-    omega (arith, c.loop-j-test.true, c.well_formed.1.1.1.1.1.1.1.1.1.1.0)
-
-pub loop-j-smaller : goal.loop-j-smaller
-loop-j-smaller c =
-    omega (arith, c.loop-j-test.true)
-
 pub loop-j-preserved : goal.loop-j-preserved
 loop-j-preserved c =
     λ word at is. none_on _ (c.loop-j.invariant word at is) (sym (c.plane_leads.ensures word at is) ∙ c.if-plane_leads.false)

@@ -10,5 +10,5 @@ fit_any-requires c =
 
 pub returns : goal.returns
 returns c =
-    last_found c.args.rows.now c.args.masks.now c.args.coefs.now c.args.first.now c.args.endrows.now c.args.endmasks.now c.args.endcoefs.now c.args.endfirst.now c.args.c c.args.wide c.args.level
+    last_found c.args.sides.now.image.rows.now c.args.sides.now.image.masks.now c.args.sides.now.image.coefs.now c.args.sides.now.image.first.now c.args.sides.now.end.rows.now c.args.sides.now.end.masks.now c.args.sides.now.end.coefs.now c.args.sides.now.end.first.now c.args.c c.args.sides.now.wide c.args.level
     (plane_lent c.args.plane c.args.stack.now c.args.j c.cell-start.ensures c.cell-stop.ensures) c.fit_any.ensures

@@ -1,12 +1,7 @@
 -- The planes passed are the same. Assumes nothing.
-use Prim.Native.Nat.{◌-◌}
 use Rattle.remembering.specs.Copies.{EqualPlanes}
 use Rattle.remembering.proofs.equal_planes.Given as goal
 
 abbrev pub invariant-loop-j : goal.invariant-loop-j
 invariant-loop-j l =
     EqualPlanes l.from l.to l.plane l.j l.base l.stack l.kept
-
-abbrev pub decreases-loop-j : goal.decreases-loop-j
-decreases-loop-j l =
-    l.p - l.j

@@ -1,18 +1,7 @@
--- What is left of the scan, from here, comes to the whole scan. Assumes nothing.
-use mathlib.Core.Path.{◌≡◌}
-use Prim.Native.Nat.{◌+◌, ◌-◌, ◌*◌, ◌≤◌}
-use lib.ListN.{length}
-use Rattle.stored.specs.Fields.{records_from}
-use Rattle.stored.specs.Rules.{first_bad}
-use Rattle.scans.specs.Asked.{passes_at}
+-- No record that was passed has a fault. Assumes nothing.
+use Rattle.std.proofs.Common.{ℕ, ◌+◌, ◌*◌, ◌<◌}
+use Rattle.std.specs.declared.option.Option.TheVariants.{None}
 use Rattle.scans.proofs.first_bad.Given as goal
 
-abbrev pub invariant-loop-left : goal.invariant-loop-left
-invariant-loop-left l =
-    (l.place + l.left * l.size ≤ length l.s)
-    × (l.left ≤ l.count)
-    × (l.count - l.left + first_bad (λ ok. ok) (records_from (passes_at l.ask l.s) l.place l.size l.left) ≡ first_bad (λ ok. ok) (records_from (passes_at l.ask l.s) l.at l.size l.count))
-
-abbrev pub decreases-loop-left : goal.decreases-loop-left
-decreases-loop-left l =
-    l.left
+abbrev pub invariant-loop-i : goal.invariant-loop-i
+invariant-loop-i g l = (j : ℕ) → j < l.i → goal.F-post g l.fault (l.records.at + j * l.records.size) None

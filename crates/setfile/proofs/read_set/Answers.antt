@@ -1,35 +1,42 @@
--- The first rule broken gives the refusal; a file that breaks none of 1 to 5 is whole, so that the later ones may be tested. Assumes nothing.
-use mathlib.Core.Path.{sym, ap, subst, ◌∙◌}
-use Prim.Native.Nat.{ℕ}
-use Rattle.stored.specs.Refusal.{refusal}
-use Rattle.refusals.specs.Refused.{refused_by}
-use Rattle.setfile.specs.declared.Broken.{Broken}
-use Rattle.setfile.specs.declared.SetAnswer.TheVariants.{Bad}
-use Rattle.setfile.specs.Answer.{bounds_of, form_read, Whole}
-use Rattle.setfile.proofs.AnswerLaws.{head_refused, body_refused, none-refused, long, whole}
+-- The first part that refuses decides; a file that none refuses holds a set. Assumes nothing.
+use mathlib.Core.Path.{◌≡◌, refl, sym, ap, ◌∙◌}
+use borrow.Author.Rules.{rules}
+use Rattle.std.specs.declared.result.Result.TheVariants.{Err}
+use Rattle.stored.specs.Refusal.{good}
+use Rattle.setfile.specs.Answer.{bounds_of}
+use Rattle.setfile.proofs.Parts.{in_parts, form-read, levels-is}
 use Rattle.setfile.proofs.read_set.Goals as goal
 
-pub returns-then-head-ne0 : goal.returns-then-head-ne0
-returns-then-head-ne0 c =
-    c.refused.ensures
-    ∙ ap (λ (n : ℕ). Bad (refused_by (refusal n c.args.source 0))) c.head_broken-head.ensures
-    ∙ head_refused (bounds_of c.args.bounds) c.args.source c.args.file.now (form_read c.args.file.now) (λ z. c.if-head-ne0.true (c.head_broken-head.ensures ∙ z))
+pub returns-in_err-form : goal.returns-in_err-form
+returns-in_err-form c source =
+    let e : c.from_residual.result ≡ Err c.in_err-form.field-0.0 = search rules in
+    rw e (rw (in_parts (bounds_of c.args.bounds) source c.args.file.now, (sym (c.in_err-form.ensures.value source))) refl)
 
-pub form_at-form-requires : goal.form_at-form-requires
-form_at-form-requires c =
-    long (bounds_of c.args.bounds) c.args.file.now (sym c.head_broken-head.ensures ∙ c.if-head-ne0.false)
+pub returns-in_err-marks : goal.returns-in_err-marks
+returns-in_err-marks c source =
+    let e : c.from_residual-in_err-marks.result ≡ Err c.in_err-marks.field-0.0 = search rules in
+    rw e (rw (in_parts (bounds_of c.args.bounds) source c.args.file.now, (sym (c.in_ok-form.ensures.value source)), (sym (c.in_err-marks.ensures source))) refl)
 
-pub body_broken-body-requires : goal.body_broken-body-requires
-body_broken-body-requires c =
-    subst (Whole c.args.file.now) (sym c.form_at-form.ensures) (whole (bounds_of c.args.bounds) c.args.file.now (sym c.head_broken-head.ensures ∙ c.if-head-ne0.false))
+pub returns-in_err-need : goal.returns-in_err-need
+returns-in_err-need c source =
+    let e : c.from_residual-in_err-need.result ≡ Err c.in_err-need.field-0.0 = search rules in
+    rw e (rw (in_parts (bounds_of c.args.bounds) source c.args.file.now, (sym (c.in_ok-form.ensures.value source)), (sym (c.in_ok-marks.ensures source)), (sym (c.in_err-need.ensures source ∙ levels-is c.args.file.now source _ _ c.in_ok-form.ensures.whole c.levels_ok.ensures))) refl)
 
-pub returns-then-number-ne0 : goal.returns-then-number-ne0
-returns-then-number-ne0 c =
-    c.refused-then-number-ne0.ensures
-    ∙ ap (λ (x : Broken). Bad (refused_by (refusal x.number c.args.source x.place))) c.body_broken-body.ensures
-    ∙ body_refused (bounds_of c.args.bounds) c.args.source c.args.file.now (form_read c.args.file.now) (sym c.head_broken-head.ensures ∙ c.if-head-ne0.false) (λ z. c.if-number-ne0.true (ap (λ (x : Broken). x.number) c.body_broken-body.ensures ∙ z))
+pub returns-in_err-inner : goal.returns-in_err-inner
+returns-in_err-inner c source =
+    let e : c.from_residual-in_err-inner.result ≡ Err c.in_err-inner.field-0.0 = search rules in
+    rw e (rw (in_parts (bounds_of c.args.bounds) source c.args.file.now, (sym (c.in_ok-form.ensures.value source)), (sym (c.in_ok-marks.ensures source)), (sym (c.in_ok-need.ensures source ∙ levels-is c.args.file.now source _ _ c.in_ok-form.ensures.whole c.levels_ok.ensures)), (sym (c.in_err-inner.ensures source))) refl)
+
+pub returns-in_err-leaves : goal.returns-in_err-leaves
+returns-in_err-leaves c source =
+    let e : c.from_residual-in_err-leaves.result ≡ Err c.in_err-leaves.field-0.0 = search rules in
+    rw e (rw (in_parts (bounds_of c.args.bounds) source c.args.file.now, (sym (c.in_ok-form.ensures.value source)), (sym (c.in_ok-marks.ensures source)), (sym (c.in_ok-need.ensures source ∙ levels-is c.args.file.now source _ _ c.in_ok-form.ensures.whole c.levels_ok.ensures)), (sym (c.in_ok-inner.ensures source)), (sym (c.in_err-leaves.ensures source))) refl)
+
+pub returns-in_err-order : goal.returns-in_err-order
+returns-in_err-order c source =
+    let e : c.from_residual-in_err-order.result ≡ Err c.in_err-order.field-0.0 = search rules in
+    rw e (rw (in_parts (bounds_of c.args.bounds) source c.args.file.now, (sym (c.in_ok-form.ensures.value source)), (sym (c.in_ok-marks.ensures source)), (sym (c.in_ok-need.ensures source ∙ levels-is c.args.file.now source _ _ c.in_ok-form.ensures.whole c.levels_ok.ensures)), (sym (c.in_ok-inner.ensures source)), (sym (c.in_ok-leaves.ensures source)), (sym (c.in_err-order.ensures source))) refl)
 
 pub returns : goal.returns
-returns c =
-    simp c.form_at-form.ensures
-    (none-refused (bounds_of c.args.bounds) c.args.source c.args.file.now (form_read c.args.file.now) (sym c.head_broken-head.ensures ∙ c.if-head-ne0.false) (sym (ap (λ (x : Broken). x.number) c.body_broken-body.ensures) ∙ c.if-number-ne0.false))
+returns c source =
+    rw (in_parts (bounds_of c.args.bounds) source c.args.file.now, (sym (c.in_ok-form.ensures.value source)), (sym (c.in_ok-marks.ensures source)), (sym (c.in_ok-need.ensures source ∙ levels-is c.args.file.now source _ _ c.in_ok-form.ensures.whole c.levels_ok.ensures)), (sym (c.in_ok-inner.ensures source)), (sym (c.in_ok-leaves.ensures source)), (sym (c.in_ok-order.ensures source))) (ap good (form-read c.args.file.now (c.in_ok-form.ensures.whole)))

@@ -1,19 +1,15 @@
--- `settling::settle` meets its contract: rows are looked up exactly where all three answers are good. Assumes nothing.
+-- `settling::settle` meets its contract: rows are looked up where nothing is refused. Assumes nothing.
 use Prim.Native.Nat.{◌+◌}
-use lib.Dec.{leb}
-use Rattle.amplitude.proofs.Equal.{both}
+use native.Mathlib.Omega.{arith}
+use borrow.Author.Tests.{le-leb, not-false}
 use Rattle.settling.proofs.settle.Goals as goal
 
-pub index_rows-requires : goal.index_rows-requires
-index_rows-requires c =
-    λ o.
-    (let p = both (leb (c.args.form.k + c.args.grown) 64) _ o in
-    let q = both c.args.r.ok _ p.1 in
-    c.requires.indexable p.0 q.0 q.1)
+pub overflow_add-made : goal.overflow_add-made
+overflow_add-made c =
+    let p = c.requires.indexable (le-leb (c.args.form.k + c.args.grown) 64 (omega arith)) c.in-Some.r c.in-Some.is (not-false _ c.if-not-r.false) in
+    omega (arith, p.few)
 
-pub returns : goal.returns
-returns c =
-    record {
-      value = c.judge.ensures;
-      begun = λ k o f. c.index_rows.ensures (rw (k, o, f));
-    }
+pub fill_first-requires : goal.fill_first-requires
+fill_first-requires c =
+    let p = c.requires.indexable (le-leb (c.args.form.k + c.args.grown) 64 (omega arith)) c.in-Some.r c.in-Some.is (not-false _ c.if-not-r.false) in
+    (p.wide, p.begins, p.rises)

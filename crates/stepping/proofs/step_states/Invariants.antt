@@ -15,10 +15,6 @@ F rows masks first endrows endmasks endfirst met wide c d start stop g s = met_b
 
 abbrev pub invariant-loop-s : goal.invariant-loop-s
 invariant-loop-s l =
-    (l.initial.s ≤ l.s) × (l.s ≤ max l.initial.s l.to) × (length l.met ≡ length l.initial.met)
-    × ((next : Level) → ((q : ℕ) → l.initial.s ≤ q → q < l.to → RowReady l.rows l.masks l.first l.endrows l.endmasks l.endfirst l.wide (length l.initial.met) q l.start l.stop next)
-    → Stepped l.wide l.initial.met next (λ g. all_in (F l.rows l.masks l.first l.endrows l.endmasks l.endfirst l.initial.met l.wide l.c l.d l.start l.stop g) l.initial.s (l.s - l.initial.s)) l.met true)
-
-abbrev pub decreases-loop-s : goal.decreases-loop-s
-decreases-loop-s l =
-    l.to - l.s
+    (l.s ≤ max l.level.from l.level.to) × (length l.met ≡ length l.initial.met)
+    × ((next : Level) → ((q : ℕ) → l.level.from ≤ q → q < l.level.to → RowReady l.sides.image.rows.now l.sides.image.masks.now l.sides.image.first.now l.sides.end.rows.now l.sides.end.masks.now l.sides.end.first.now l.sides.wide (length l.initial.met) q l.level.start l.level.stop next)
+    → Stepped l.sides.wide l.initial.met next (λ g. all_in (F l.sides.image.rows.now l.sides.image.masks.now l.sides.image.first.now l.sides.end.rows.now l.sides.end.masks.now l.sides.end.first.now l.initial.met l.sides.wide l.c l.d l.level.start l.level.stop g) l.level.from (l.s - l.level.from)) l.met true)

@@ -1,14 +1,9 @@
 -- Each leaf's coefficients are stored at its number, and the earlier rows stay. Assumes nothing.
 use mathlib.Core.Path.{◌≡◌}
-use Prim.Native.Nat.{◌+◌, ◌-◌, ◌*◌, ◌≤◌}
 use lib.ListN.{length}
 use Rattle.tables.specs.Unpack.{Leaved}
 use Rattle.tables.proofs.fill_coefs.Given as goal
 
 abbrev pub invariant-loop-i : goal.invariant-loop-i
 invariant-loop-i l =
-    (l.at ≡ l.start + l.i * 24) × (l.i ≤ l.count) × (length l.coefs ≡ length l.initial.coefs) × Leaved l.file l.start l.i l.coefs
-
-abbrev pub decreases-loop-i : goal.decreases-loop-i
-decreases-loop-i l =
-    l.count - l.i
+    (length l.coefs ≡ length l.initial.coefs) × Leaved l.file l.start l.i l.coefs

@@ -1,14 +1,9 @@
 -- Each level's count is stored at its number, and the earlier ones stay. Assumes nothing.
 use mathlib.Core.Path.{◌≡◌}
-use Prim.Native.Nat.{◌+◌, ◌-◌, ◌*◌, ◌≤◌}
 use lib.ListN.{length}
 use Rattle.tables.specs.Unpack.{Counted}
 use Rattle.tables.proofs.fill_counts.Given as goal
 
 abbrev pub invariant-loop-i : goal.invariant-loop-i
 invariant-loop-i l =
-    (l.at ≡ l.start + l.i * 4) × (l.i ≤ l.count) × (length l.counts ≡ length l.initial.counts) × Counted l.file l.start l.i l.counts
-
-abbrev pub decreases-loop-i : goal.decreases-loop-i
-decreases-loop-i l =
-    l.count - l.i
+    (length l.counts ≡ length l.initial.counts) × Counted l.file l.start l.i l.counts

@@ -1,19 +1,14 @@
 -- The TR records' rows are filled first, and those of the LF records behind them. Assumes nothing.
-use native.Mathlib.Omega.{arith}
-use Rattle.tables.specs.Unpack.{width_of}
+use mathlib.Core.Path.{◌≡◌, ap, ◌∙◌}
+use Prim.Native.Nat.{◌+◌, ◌*◌}
+use borrow.Author.Rules.{rules}
+use Rattle.records.specs.Read.{tr_of, key_read, tr_read}
+use Rattle.records.proofs.ReadLaws.{tr_read_lem}
 use Rattle.tables.proofs.Fill.{tabled}
 use Rattle.tables.proofs.fill_table.Goals as goal
 
-pub fill_rows-requires : goal.fill_rows-requires
-unfolding width_of
-fill_rows-requires c =
-    (omega arith, omega arith, record { wide = omega arith; long = omega arith })
-
-pub fill_rows-requires-2 : goal.fill_rows-requires-2
-unfolding width_of
-fill_rows-requires-2 c =
-    (omega arith, omega arith, record { wide = omega arith; long = omega arith })
-
 pub returns : goal.returns
+unfolding key_read
 returns c =
-    tabled c.fill_rows.ensures c.fill_rows-2.ensures
+    tabled (λ j t h. let e : t ≡ tr_read c.args.file.now (c.args.trs + j * 12) = search rules in ap tr_of e ∙ tr_read_lem _ _)
+    (λ j t h. search rules) c.fill_rows.ensures c.fill_rows-2.ensures

@@ -1,23 +1,13 @@
 -- The four numbers are stored at the row's own places. Assumes nothing.
 use native.Mathlib.Omega.{arith}
-use lib.ListN.{length-set}
+use lib.IntN.{pos}
+use lib.ListN.{get_or}
 use Rattle.fields.proofs.Kept.{bits_kept}
-use Rattle.tables.proofs.Leaves.{put-leaf}
+use Rattle.tables.specs.Table.{row_set}
 use Rattle.tables.proofs.put_leaf.Goals as goal
 
-pub bounds-coefs-at-2 : goal.bounds-coefs-at-2
-bounds-coefs-at-2 c =
-    simp length-set (omega arith)
-
-pub bounds-coefs-at-3 : goal.bounds-coefs-at-3
-bounds-coefs-at-3 c =
-    simp length-set (omega arith)
-
-pub bounds-coefs-at-4 : goal.bounds-coefs-at-4
-bounds-coefs-at-4 c =
-    simp length-set (omega arith)
-
 pub returns : goal.returns
+unfolding row_set
 returns c =
-    rw (bits_kept c.args.leaf.a (record { sfits = c.struct_told-4-1.given.1.1.0.1 }), bits_kept c.args.leaf.b (record { sfits = c.struct_told-4-1.given.1.1.1.0.1 }), bits_kept c.args.leaf.c (record { sfits = c.struct_told-4-1.given.1.1.1.1.0.1 }), bits_kept c.args.leaf.d (record { sfits = c.struct_told-4-1.given.1.1.1.1.1.0.1 }))
-    (put-leaf c.args.coefs.now c.args.i c.args.leaf.a c.args.leaf.b c.args.leaf.c c.args.leaf.d (omega arith))
+    let n = c.args.numbers in
+    rw (bits_kept (get_or n 0 (pos 0)) (record { sfits = omega arith }), bits_kept (get_or n 1 (pos 0)) (record { sfits = omega arith }), bits_kept (get_or n 2 (pos 0)) (record { sfits = omega arith }), bits_kept (get_or n 3 (pos 0)) (record { sfits = omega arith }))

@@ -4,7 +4,7 @@ use mathlib.Core.Path.{sym}
 use native.Mathlib.Omega.{arith}
 use lib.ListN.{take}
 use lib.Seq.{length-take-le}
-use Rattle.lines.specs.Numeral.{field, fields_of}
+use Rattle.lines.specs.Numeral.{field, field_list}
 use Rattle.lines.specs.Printed.{fails_name}
 use Rattle.lines.proofs.Putting.{put_whole, put_on, put_as, put_less}
 use Rattle.lines.proofs.Fields.{grouped}
@@ -26,7 +26,7 @@ pub returns : goal.returns
 returns c =
     let named = put_whole fails_name c.args.out.now c.put_bytes.ensures in
     let placed = put_on named (omega arith) c.put_field-root_at.ensures in
-    let rooted = put_on placed (omega arith) c.put_field.ensures in
+    let rooted = put_on placed (omega arith) (rw c.from.ensures at c.put_field.ensures) in
     let all = put_on rooted (omega arith) c.put_fields.ensures in
-    put_less (put_as all (grouped fails_name (field c.args.place) (field c.args.root) (fields_of (take c.args.choices c.args.word.now))))
+    put_less (put_as all (grouped fails_name (field c.args.place) (field c.args.root) (field_list (take c.args.choices c.args.word.now))))
     111 (omega (arith, all.few, (length-take-le c.args.choices c.args.word.now c.requires.2)))

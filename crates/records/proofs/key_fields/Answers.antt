@@ -1,8 +1,0 @@
--- Each field is the number at its place. Assumes nothing.
-use Rattle.records.specs.Read.{key_read}
-use Rattle.records.proofs.key_fields.Goals as goal
-
-pub returns : goal.returns
-unfolding key_read
-returns c =
-    cc

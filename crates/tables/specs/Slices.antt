@@ -1,0 +1,50 @@
+-- The slices of a table as one thing, and which of them the code's structs lend.
+use Rattle.std.specs.Prelude.{◌≡◌, List, ℕ, ℤ, length}
+use Rattle.automata.specs.Sets.{QSet}
+use Rattle.tables.specs.declared.Table as shared
+use Rattle.tables.specs.declared.TableMut.{TableMut}
+use Rattle.setfile.specs.declared.Form.{Form}
+use Rattle.tables.specs.Table.{table_set}
+use Rattle.tables.specs.Ready.{Roomy, Unpacked}
+
+-- the slices of a table
+pub record Table : Type 0 where
+  pub rows : List ℕ
+  pub masks : List ℕ
+  pub coefs : List ℤ
+  pub counts : List ℕ
+  pub first : List ℕ
+
+abbrev pub table_of : List ℕ → List ℕ → List ℤ → List ℕ → List ℕ → Table
+table_of rows masks coefs counts first = record { rows = rows; masks = masks; coefs = coefs; counts = counts; first = first }
+
+-- the slices that are lent to be read
+abbrev pub table_is : shared.Table → Table
+table_is t = table_of t.rows.now t.masks.now t.coefs.now t.counts.now t.first.now
+
+-- the slices that are lent to be written
+abbrev pub lent_is : TableMut → Table
+lent_is t = table_of t.rows.now t.masks.now t.coefs.now t.counts.now t.first.now
+
+-- the table with other beginnings
+abbrev pub with_first : Table → List ℕ → Table
+with_first T first = table_of T.rows T.masks T.coefs T.counts first
+
+-- two tables whose slices are as long
+pub record SameLengths (T T' : Table) : Type 0 where
+  pub rows : length T'.rows ≡ length T.rows
+  pub masks : length T'.masks ≡ length T.masks
+  pub coefs : length T'.coefs ≡ length T.coefs
+  pub counts : length T'.counts ≡ length T.counts
+  pub first : length T'.first ≡ length T.first
+
+-- the set of so many qubits, states and records that a table holds
+abbrev pub set_on : Form → Table → QSet
+set_on f T = table_set f.n f.k T.rows T.masks T.coefs T.counts f.inner f.leaves
+
+-- what is said of slices, of a table
+abbrev pub RoomyOn : Table → ℕ → ℕ → ℕ → ℕ → Type 0
+RoomyOn T n states inner leaves = Roomy T.rows T.masks T.coefs T.counts T.first n states inner leaves
+
+abbrev pub UnpackedOn : Table → QSet → Type 0
+UnpackedOn T Q = Unpacked T.rows T.masks T.coefs T.counts T.first Q
