@@ -1,5 +1,6 @@
 // Document 01, "What each gate builds": all levels of a gate's result from one level on, "Each level's records go into the rest of the lent
-// table". Two functions in a cycle: one builds a level, the other lends the rest of the slices on for the levels below it.
+// table". Two functions in a cycle: one builds a level, the other lends the rest of the slices on for the levels below it. The written slices
+// are parameters of their own, since tails of three of them are lent on, which a struct behind a reference cannot do at once.
 #![tactic(auto)]
 
 ghost use Rattle.std.specs.Prelude.{eqb, take};
