@@ -89,5 +89,7 @@ pub fn apply_gate(
         new.coefs,
         new.counts,
     );
-    settle(form, grown, place, built, new)
+    let rows = &mut *new.rows;
+    let first = &mut *new.first;
+    settle(form, grown, place, built, rows, first)
 }

@@ -2,13 +2,12 @@
 // after it.
 #![tactic(auto)]
 
-ghost use Rattle.std.specs.Prelude.{◌≡◌, true, ◌+◌, ◌<◌, leb, length, Some};
+ghost use Rattle.std.specs.Prelude.{◌≡◌, true, ◌+◌, ◌<◌, leb, Some};
 ghost use Rattle.amplitude.specs.Leaf.{k_most};
 ghost use Rattle.stored.specs.Refusal.{refusal, circuit_source};
 ghost use Rattle.gates.specs.Build.{growth};
 ghost use Rattle.circuits.specs.Answer.{gate_is, kind_is};
 ghost use Rattle.refusals.specs.Refused.{number_of, told, judged};
-ghost use Rattle.tables.specs.Slices.{lent_is, with_first};
 ghost use Rattle.tables.specs.Unpack.{Begun};
 ghost use Rattle.building.specs.declared.Outcome.{Outcome};
 ghost use Rattle.settling.specs.Result.{kind_growth, made_of, picked, next_image};
@@ -18,7 +17,7 @@ use building::Outcome;
 use circuits::{Gate, Kind};
 use refusals::{Reason, Refusal, Source};
 use setfile::{Form, K_MOST};
-use tables::TableMut;
+use tables::fill_first;
 
 // The image so far: the numbers of the set, and whether the second table holds it.
 #[derive(Clone, Copy)]
@@ -70,22 +69,21 @@ fn refused(reason: Reason, place: u32) -> Refusal
     }
 }
 
-// What building left in the new table is judged: "gate by gate 15, 14, 16". Where it is a set, the row where each state's records begin is found.
+// What building left is judged: "gate by gate 15, 14, 16". Where it is a set, the row where each state's records begin is found.
 pub fn settle(
     form: Form,
     grown: u8,
     place: u32,
     built: Option<Outcome>,
-    new: &mut TableMut,
+    rows: &[u16],
+    first: &mut [u16],
 ) -> Result<Form, Refusal>
     requires grown_bound { form.k + grown < 256 }
     requires indexable { leb (form.k + grown) k_most ≡ true → (r : Outcome) → built ≡ Some r → r.fits ≡ true
-        → Indexable new.old.rows.now new.old.first.now (made_of form.n (form.k + grown) r) }
+        → Indexable rows.now first.old (made_of form.n (form.k + grown) r) }
     ensures value { judged result ≡ picked (leb (form.k + grown) k_most) built place form.n (form.k + grown) }
     ensures begun { leb (form.k + grown) k_most ≡ true → (r : Outcome) → built ≡ Some r → r.fits ≡ true
-        → Begun new.old.rows.now (r.inner + r.leaves) (r.states + 1) new.new.first.now }
-    ensures others { lent_is new.new ≡ with_first (lent_is new.old) new.new.first.now }
-    ensures long { length new.new.first.now ≡ length new.old.first.now }
+        → Begun rows.now (r.inner + r.leaves) (r.states + 1) first.new }
 {
     let k = form.k + grown;
     if K_MOST < k {
@@ -104,6 +102,6 @@ pub fn settle(
         inner: r.inner,
         leaves: r.leaves,
     };
-    new.fill_first(made.inner + made.leaves, made.states);
+    fill_first(rows, made.inner + made.leaves, made.states, first);
     Ok(made)
 }

@@ -26,10 +26,6 @@ table_is t = table_of t.rows.now t.masks.now t.coefs.now t.counts.now t.first.no
 abbrev pub lent_is : TableMut → Table
 lent_is t = table_of t.rows.now t.masks.now t.coefs.now t.counts.now t.first.now
 
--- the table with other beginnings
-abbrev pub with_first : Table → List ℕ → Table
-with_first T first = table_of T.rows T.masks T.coefs T.counts first
-
 -- two tables whose slices are as long
 pub record SameLengths (T T' : Table) : Type 0 where
   pub rows : length T'.rows ≡ length T.rows

@@ -9,7 +9,7 @@ ghost use Rattle.tables.specs.Table.{row_width, leaf_width, amp_from, row_set};
 ghost use Rattle.tables.specs.States.{state_row, Rising};
 ghost use Rattle.tables.specs.Unpack.{Put, Room, Filled, Tabled, Leaved, Counted, Begun};
 ghost use Rattle.tables.specs.Ready.{Ready};
-ghost use Rattle.tables.specs.Slices.{table_is, lent_is, with_first, RoomyOn, UnpackedOn, SameLengths};
+ghost use Rattle.tables.specs.Slices.{table_is, lent_is, RoomyOn, UnpackedOn, SameLengths};
 
 use records::{HD_SIZE, LF_SIZE, LV_SIZE, TR_SIZE, Tr, count_at, key_at, lf_at, tr_at};
 use setfile::Form;
@@ -50,23 +50,6 @@ impl TableMut<'_> {
             coefs: self.coefs,
             counts: self.counts,
             first: self.first,
-        }
-    }
-
-    // The rows where each state's records begin, and one past the last. States in rows do not fall, so one pass over rows and states finds them all.
-    pub fn fill_first(&mut self, total: u16, states: u16)
-        requires { (total * row_width ≤ length self.old.rows.now) × (states + 1 ≤ length self.old.first.now) × Rising (state_row self.old.rows.now) total }
-        ensures begun { Begun self.old.rows.now total (states + 1) self.new.first.now }
-        ensures long { length self.new.first.now ≡ length self.old.first.now }
-        ensures others { lent_is self.new ≡ with_first (lent_is self.old) self.new.first.now }
-    {
-        let mut i: u16 = 0;
-        for s in 0..usize::from(states) + 1 {
-            // A while: rows are passed by their states and not by a count, so that one pass finds the beginnings of all.
-            while i < total && usize::from(self.rows[usize::from(i) * ROW_WIDTH]) < s {
-                i += 1;
-            }
-            self.first[s] = i;
         }
     }
 }
@@ -153,6 +136,21 @@ fn fill_counts(file: &[u8], start: usize, count: usize, counts: &mut [u16])
     }
 }
 
+// The row where each state's records begin, and one past the last. States in rows do not fall, so one pass over rows and states finds them all.
+pub fn fill_first(rows: &[u16], total: u16, states: u16, first: &mut [u16])
+    requires { (total * row_width ≤ length rows.now) × (states + 1 ≤ length first.old) × Rising (state_row rows.now) total }
+    ensures { Begun rows.now total (states + 1) first.new }
+{
+    let mut i: u16 = 0;
+    for s in 0..usize::from(states) + 1 {
+        // A while: rows are passed by their states and not by a count, so that one pass finds the beginnings of all.
+        while i < total && usize::from(rows[usize::from(i) * ROW_WIDTH]) < s {
+            i += 1;
+        }
+        first[s] = i;
+    }
+}
+
 // A set file that the ten rules passed, unpacked: the table holds its set, and leaf row i names row i of the coefficients. What it held before,
 // and what stands behind the file's records in it, does not matter.
 pub fn unpack(file: &[u8], form: Form, table: &mut TableMut)
@@ -167,5 +165,7 @@ pub fn unpack(file: &[u8], form: Form, table: &mut TableMut)
     fill_table(file, form, trs, lfs, table.rows, table.masks);
     fill_coefs(file, lfs, form.leaves, table.coefs);
     fill_counts(file, HD_SIZE, levels, table.counts);
-    table.fill_first(form.inner + form.leaves, form.states);
+    let rows = &mut *table.rows;
+    let first = &mut *table.first;
+    fill_first(rows, form.inner + form.leaves, form.states, first);
 }

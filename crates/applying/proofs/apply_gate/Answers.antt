@@ -1,10 +1,8 @@
 -- The roots' keys are put, all levels built from them, and what that left is settled: each step's contract is what the next one asks. Assumes nothing.
-use mathlib.Core.Path.{refl, sym, subst}
+use mathlib.Core.Path.{refl}
 use Prim.Native.Nat.{◌<◌}
 use native.Mathlib.Omega.{arith}
 use Rattle.circuits.specs.Answer.{gate_is}
-use Rattle.standing.specs.Tables.{Table, HoldingOn}
-use Rattle.settling.specs.Result.{bounds_from}
 use Rattle.applying.proofs.OldTable.{root_count, set_going}
 use Rattle.applying.proofs.OneGate.{lists_on, lent_on, may_build, may_settle, answer, table}
 use Rattle.applying.proofs.apply_gate.Goals as goal
@@ -41,6 +39,5 @@ returns-clause-value c =
 pub returns-clause-holding : goal.returns-clause-holding
 returns-clause-holding c =
     let few : c.args.room.states < 65536 = omega (arith, c.requires.lists.small) in
-    λ N e. subst (λ (T : Table). HoldingOn T N (bounds_from c.args.room)) (sym c.settle.ensures.others)
-    (table few c.requires.stands (gate_is c.args.g) c.requires.light.0 c.requires.light.1 c.growth_of-grown.result c.growth_of-grown.ensures c.put_roots.new.cur c.put_roots.ensures c.build_levels-built.result c.build_levels-built.ensures c.args.place
-    (lent_on c.requires.lent c.build_levels-built.auto.rows c.build_levels-built.auto.masks c.build_levels-built.auto.coefs c.build_levels-built.auto.counts c.settle.ensures.long) c.settle.ensures.begun N e)
+    λ N e. table few c.requires.stands (gate_is c.args.g) c.requires.light.0 c.requires.light.1 c.growth_of-grown.result c.growth_of-grown.ensures c.put_roots.new.cur c.put_roots.ensures c.build_levels-built.result c.build_levels-built.ensures c.args.place
+    (lent_on c.requires.lent c.build_levels-built.auto.rows c.build_levels-built.auto.masks c.build_levels-built.auto.coefs c.build_levels-built.auto.counts c.settle.auto.first) c.settle.ensures.begun N e

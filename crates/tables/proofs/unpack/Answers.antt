@@ -1,11 +1,8 @@
 -- The steps leave the records of the file in the slices, so the rows' states rise as the records' do, which is what the beginnings ask.
 -- Assumes nothing.
-use mathlib.Core.Path.{sym, subst}
 use Prim.Native.Nat.{◌+◌, ◌≤◌}
 use native.Mathlib.Omega.{arith}
 use lib.ListN.{length}
-use Rattle.stored.specs.Form.{set_of}
-use Rattle.tables.specs.Slices.{Table, lent_is, SameLengths, UnpackedOn}
 use Rattle.tables.proofs.Unpacking.{all_there, steps, rows-rise, unpacked}
 use Rattle.tables.proofs.unpack.Goals as goal
 
@@ -33,8 +30,7 @@ returns c =
     let room : c.args.form.n + 1 ≤ length c.fill_counts.new.counts = omega (arith, c.requires.roomy.levels) in
     let h = steps c.requires.ready (rw (c.from-levels.ensures, c.from.ensures) at c.fill_table.ensures) (rw (c.from-levels.ensures, c.from.ensures) at c.fill_coefs.ensures)
     (rw c.from-levels.ensures at c.fill_counts.ensures) room in
-    let same = c.fill_first.ensures.others in
     record {
-      unpacked = subst (λ (T : Table). UnpackedOn T (set_of c.args.file.now)) (sym same) (unpacked c.requires.ready h c.fill_first.ensures.begun);
-      long = subst (SameLengths (lent_is c.args.table.now)) (sym same) (record { rows = omega arith; masks = omega arith; coefs = omega arith; counts = omega arith; first = c.fill_first.ensures.long });
+      unpacked = unpacked c.requires.ready h c.fill_first.ensures;
+      long = record { rows = omega arith; masks = omega arith; coefs = omega arith; counts = omega arith; first = omega arith };
     }

@@ -3,23 +3,21 @@ use mathlib.Core.Path.{◌≡◌}
 use Prim.Native.Nat.{ℕ, ◌-◌, ◌≤◌, ◌<◌}
 use lib.ListN.{length}
 use Rattle.tables.specs.States.{state_row}
-use Rattle.tables.specs.Slices.{lent_is, with_first}
 use Rattle.tables.specs.Unpack.{Begun}
-use Rattle.tables.proofs.TableMut.fill_first.Given as goal
+use Rattle.tables.proofs.fill_first.Given as goal
 
 abbrev pub invariant-loop-s : goal.invariant-loop-s
 invariant-loop-s l = record {
   within : l.i ≤ l.total;
-  long : length l.self.first.now ≡ length l.initial.self.first.now;
-  begun : Begun l.fn.self.rows.now l.total l.s l.self.first.now;
-  low : (j : ℕ) → j < l.i → state_row l.fn.self.rows.now j < l.s;
-  others : lent_is l.self ≡ with_first (lent_is l.fn.self) l.self.first.now;
+  long : length l.first ≡ length l.initial.first;
+  begun : Begun l.rows l.total l.s l.first;
+  low : (j : ℕ) → j < l.i → state_row l.rows j < l.s;
 }
 
 abbrev pub invariant-loop-i : goal.invariant-loop-i
 invariant-loop-i l = record {
   within : l.i ≤ l.total;
-  low : (j : ℕ) → j < l.i → state_row l.fn.self.rows.now j < l.s;
+  low : (j : ℕ) → j < l.i → state_row l.rows j < l.s;
 }
 
 abbrev pub decreases-loop-i : goal.decreases-loop-i
