@@ -9,7 +9,7 @@ ghost use Rattle.stored.specs.Refusal.{good};
 ghost use Rattle.gates.specs.Key.{plain, stored};
 ghost use Rattle.gates.specs.Refuse.{judge_gate};
 ghost use Rattle.gates.proofs.Fits.{Fits};
-ghost use Rattle.tables.specs.Slices.{table_is, lent_is, SameLengths};
+ghost use Rattle.tables.specs.Slices.{table_is, lent_is, SameLengths, SameLent};
 ghost use Rattle.circuits.specs.Answer.{gate_is};
 ghost use Rattle.refusals.specs.Refused.{judged, seen};
 ghost use Rattle.stepwise.proofs.StoredLaws.{Light};
@@ -60,6 +60,7 @@ pub fn apply_gate(
     ensures holding { (N : QSet) → judge_gate (bounds_from room) place (gate_is g) (set_on form (table_is old.now)) ≡ good N
         → HoldingOn (lent_is new.new) N (bounds_from room) }
     ensures long { SameLengths (lent_is new.old) (lent_is new.new) × SameNames names.old names.new }
+    ensures same_slices { SameLent new.old new.new }
 {
     let count = old.counts[0];
     put_roots(cur, count);

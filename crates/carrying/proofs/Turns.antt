@@ -23,7 +23,8 @@ use Rattle.stepwise.proofs.StoredLaws.{Light}
 use Rattle.setfile.specs.declared.Form.{Form}
 use Rattle.building.specs.declared.Room.{Room}
 use Rattle.names.specs.declared.Names.{Names}
-use Rattle.tables.specs.Slices.{SameLengths}
+use Rattle.tables.specs.declared.TableMut.{TableMut}
+use Rattle.tables.specs.Slices.{SameLengths, SameLent}
 use Rattle.growing.specs.Growing.{SameNames}
 use Rattle.building.specs.Going.{ListsIn}
 use Rattle.standing.specs.Standing.{form_of}
@@ -80,12 +81,19 @@ long_on k h = record { rows = h.rows ∙ k.rows; masks = h.masks ∙ k.masks; co
 lent-long : {T T' : Table} {n : ℕ} {room : Room} → SameLengths T T' → LentOn T n room → LentOn T' n room
 lent-long h l = lent_on l h.rows h.masks h.coefs h.counts h.first
 
+-- the same slices
+pub same_lent : {t : TableMut} → SameLent t t
+same_lent = record { rows = refl; masks = refl; coefs = refl; counts = refl; first = refl }
+
+pub same_on : {t t' t'' : TableMut} → SameLent t t' → SameLent t' t'' → SameLent t t''
+same_on k h = record { rows = h.rows ∙ k.rows; masks = h.masks ∙ k.masks; coefs = h.coefs ∙ k.coefs; counts = h.counts ∙ k.counts; first = h.first ∙ k.first }
+
 -- the same of the lists
 pub same_names : {n : Names} → SameNames n n
-same_names = record { keys_long = refl; link_long = refl; heads_long = refl }
+same_names = record { keys_same = refl; link_same = refl; heads_same = refl; keys_long = refl; link_long = refl; heads_long = refl }
 
 pub names_on : {n n' n'' : Names} → SameNames n n' → SameNames n' n'' → SameNames n n''
-names_on k h = record { keys_long = h.keys_long ∙ k.keys_long; link_long = h.link_long ∙ k.link_long; heads_long = h.heads_long ∙ k.heads_long }
+names_on k h = record { keys_same = h.keys_same ∙ k.keys_same; link_same = h.link_same ∙ k.link_same; heads_same = h.heads_same ∙ k.heads_same; keys_long = h.keys_long ∙ k.keys_long; link_long = h.link_long ∙ k.link_long; heads_long = h.heads_long ∙ k.heads_long }
 
 lists-long : {cur cur' : List ℕ} {n n' : Names} {states start : ℕ} → length cur' ≡ length cur → SameNames n n' → ListsIn cur n states start → ListsIn cur' n' states start
 lists-long c h l = record {

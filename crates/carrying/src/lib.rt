@@ -5,7 +5,7 @@
 ghost use Rattle.gates.specs.Refuse.{after_gates};
 ghost use Rattle.growing.specs.Growing.{SameNames};
 ghost use Rattle.building.specs.Going.{ListsIn};
-ghost use Rattle.tables.specs.Slices.{lent_is, SameLengths};
+ghost use Rattle.tables.specs.Slices.{lent_is, SameLengths, SameLent};
 ghost use Rattle.standing.specs.Tables.{set_on, StandsOn};
 ghost use Rattle.settling.specs.Result.{bounds_from};
 ghost use Rattle.settling.specs.Standing.{LentOn};
@@ -39,6 +39,7 @@ pub fn run_gates(
     ensures carried { Carried form.n (lent_is a.new) (lent_is b.new) result (bounds_from room)
         (after_gates (bounds_from room) 1 (gates_from form.n circuit.now 0 count) (set_on form (lent_is a.old))) }
     ensures long { SameLengths (lent_is a.old) (lent_is a.new) × SameLengths (lent_is b.old) (lent_is b.new) × SameNames names.old names.new }
+    ensures same_slices { SameLent a.old a.new × SameLent b.old b.new }
 {
     let mut image = Image {
         form,

@@ -27,8 +27,11 @@ pub record Growing (v : NewLevel) : Type 0 where
   pub links : v.most.keys + 2 ≤ length v.link.now
   pub small : v.most.base + v.most.keys + 2 < 65536
 
--- keys and chains in slices that are as long
+-- keys and chains in the same slices, which are as long
 pub record SameNames (n n' : Names) : Type 0 where
+  pub keys_same : n'.keys.ghost_name ≡ n.keys.ghost_name
+  pub link_same : n'.link.ghost_name ≡ n.link.ghost_name
+  pub heads_same : n'.heads.ghost_name ≡ n.heads.ghost_name
   pub keys_long : length n'.keys.now ≡ length n.keys.now
   pub link_long : length n'.link.now ≡ length n.link.now
   pub heads_long : length n'.heads.now ≡ length n.heads.now

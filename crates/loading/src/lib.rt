@@ -6,7 +6,7 @@ ghost use Rattle.automata.specs.Sets.{QSet};
 ghost use Rattle.stored.specs.Refusal.{good};
 ghost use Rattle.stored.specs.Rules.{n_most};
 ghost use Rattle.stored.specs.Judge.{judge_set};
-ghost use Rattle.tables.specs.Slices.{lent_is, SameLengths, RoomyOn};
+ghost use Rattle.tables.specs.Slices.{lent_is, SameLengths, SameLent, RoomyOn};
 ghost use Rattle.refusals.specs.Refused.{judged_at, seen};
 ghost use Rattle.setfile.specs.Answer.{bounds_of};
 ghost use Rattle.standing.specs.Standing.{form_of};
@@ -23,6 +23,7 @@ pub fn load(file: &[u8], bounds: Bounds, table: &mut TableMut) -> Result<Form, F
     ensures holding { (source : ℕ) (Q : QSet) → judge_set (bounds_of bounds) source file.now ≡ good Q
         → HoldingOn (lent_is table.new) Q (bounds_of bounds) }
     ensures long { SameLengths (lent_is table.old) (lent_is table.new) }
+    ensures same_slices { SameLent table.old table.new }
 {
     let form = read_set(file, bounds)?;
     unpack(file, form, table);

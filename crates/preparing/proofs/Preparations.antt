@@ -23,7 +23,8 @@ use Rattle.refusals.specs.declared.Source.{Source}
 use Rattle.refusals.specs.Refused.{source_of, told, judged, judged_at, seen}
 use Rattle.refusals.proofs.Told.{turned_down, good_seen, SeenOf}
 use Rattle.setfile.specs.declared.Form.{Form}
-use Rattle.tables.specs.Slices.{Table, SameLengths}
+use Rattle.tables.specs.declared.TableMut.{TableMut}
+use Rattle.tables.specs.Slices.{Table, SameLengths, SameLent}
 use Rattle.standing.specs.Standing.{form_of}
 use Rattle.preparing.specs.declared.Files.{Files}
 use Rattle.preparing.specs.Prepared.{files_judged, files_of, rest_judged, end_judged}
@@ -46,6 +47,9 @@ handed-on e h = rw (e, h)
 -- a table that is not written
 pub as_long : {T : Table} → SameLengths T T
 as_long = record { rows = refl; masks = refl; coefs = refl; counts = refl; first = refl }
+
+pub as_lent : {t : TableMut} → SameLent t t
+as_lent = record { rows = refl; masks = refl; coefs = refl; counts = refl; first = refl }
 
 -- the numbers of files that are all good
 good_files : {f g : Form} {k : ℕ} (J : Ready) → f ≡ form_of J.start → k ≡ length J.gates → g ≡ form_of J.end

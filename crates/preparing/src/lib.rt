@@ -6,7 +6,7 @@ ghost use Rattle.std.specs.Prelude.{◌≡◌};
 ghost use Rattle.stored.specs.Refusal.{good};
 ghost use Rattle.stored.specs.Rules.{n_most};
 ghost use Rattle.jobs.specs.Check.{Ready};
-ghost use Rattle.tables.specs.Slices.{lent_is, RoomyOn, SameLengths};
+ghost use Rattle.tables.specs.Slices.{lent_is, RoomyOn, SameLengths, SameLent};
 ghost use Rattle.refusals.specs.Refused.{judged, seen};
 ghost use Rattle.setfile.specs.Answer.{bounds_of};
 ghost use Rattle.standing.specs.Tables.{HoldingOn};
@@ -42,6 +42,7 @@ pub fn prepare(
     ensures holding { (J : Ready) → files_judged (bounds_of bounds) (bounds_of endbounds) start.now circuit.now end.now ≡ good J
         → HoldingOn (lent_is table.new) J.start (bounds_of bounds) × HoldingOn (lent_is endtable.new) J.end (bounds_of endbounds) }
     ensures long { SameLengths (lent_is table.old) (lent_is table.new) × SameLengths (lent_is endtable.old) (lent_is endtable.new) }
+    ensures same_slices { SameLent table.old table.new × SameLent endtable.old endtable.new }
 {
     let form = load(start, bounds, table).map_err(|f| f.of(Source::Start))?;
     let count = read_circuit(circuit, form.n)?;

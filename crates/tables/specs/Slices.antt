@@ -34,6 +34,14 @@ pub record SameLengths (T T' : Table) : Type 0 where
   pub counts : length T'.counts ≡ length T.counts
   pub first : length T'.first ≡ length T.first
 
+-- two lendings of the same slices: a caller that lent its own through a struct then knows what stands in them
+pub record SameLent (t t' : TableMut) : Type 0 where
+  pub rows : t'.rows.ghost_name ≡ t.rows.ghost_name
+  pub masks : t'.masks.ghost_name ≡ t.masks.ghost_name
+  pub coefs : t'.coefs.ghost_name ≡ t.coefs.ghost_name
+  pub counts : t'.counts.ghost_name ≡ t.counts.ghost_name
+  pub first : t'.first.ghost_name ≡ t.first.ghost_name
+
 -- the set of so many qubits, states and records that a table holds
 abbrev pub set_on : Form → Table → QSet
 set_on f T = table_set f.n f.k T.rows T.masks T.coefs T.counts f.inner f.leaves

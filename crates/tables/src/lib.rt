@@ -9,7 +9,7 @@ ghost use Rattle.tables.specs.Table.{row_width, leaf_width, amp_from, row_set};
 ghost use Rattle.tables.specs.States.{state_row, Rising};
 ghost use Rattle.tables.specs.Unpack.{Put, Room, Filled, Tabled, Leaved, Counted, Begun};
 ghost use Rattle.tables.specs.Ready.{Ready};
-ghost use Rattle.tables.specs.Slices.{table_is, lent_is, RoomyOn, UnpackedOn, SameLengths};
+ghost use Rattle.tables.specs.Slices.{table_is, lent_is, RoomyOn, UnpackedOn, SameLengths, SameLent};
 
 use records::{HD_SIZE, LF_SIZE, LV_SIZE, TR_SIZE, Tr, count_at, key_at, lf_at, tr_at};
 use setfile::Form;
@@ -158,6 +158,7 @@ pub fn unpack(file: &[u8], form: Form, table: &mut TableMut)
     requires roomy { RoomyOn (lent_is table.old) form.n form.states form.inner form.leaves }
     ensures unpacked { UnpackedOn (lent_is table.new) (set_of file.now) }
     ensures long { SameLengths (lent_is table.old) (lent_is table.new) }
+    ensures same_slices { SameLent table.old table.new }
 {
     let levels = usize::from(form.n) + 1;
     let trs = HD_SIZE + LV_SIZE * levels;

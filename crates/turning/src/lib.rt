@@ -13,7 +13,7 @@ ghost use Rattle.stepwise.proofs.StoredLaws.{Light};
 ghost use Rattle.growing.specs.Growing.{SameNames};
 ghost use Rattle.building.specs.Going.{ListsIn};
 ghost use Rattle.standing.specs.Standing.{form_of};
-ghost use Rattle.tables.specs.Slices.{lent_is, SameLengths};
+ghost use Rattle.tables.specs.Slices.{lent_is, SameLengths, SameLent};
 ghost use Rattle.standing.specs.Tables.{holder, other, set_on, StandsIn, HoldingOn};
 ghost use Rattle.settling.specs.Result.{bounds_from};
 ghost use Rattle.settling.specs.Standing.{LentOn};
@@ -46,6 +46,7 @@ pub fn turn(
     ensures holding_on { (N : QSet) → judge_gate (bounds_from room) place (gate_is g) (set_on image.form (holder image.second (lent_is a.old) (lent_is b.old))) ≡ good N
         → HoldingOn (other image.second (lent_is a.new) (lent_is b.new)) N (bounds_from room) }
     ensures long { SameLengths (lent_is a.old) (lent_is a.new) × SameLengths (lent_is b.old) (lent_is b.new) × SameNames names.old names.new }
+    ensures same_slices { SameLent a.old a.new × SameLent b.old b.new }
 {
     if image.second {
         return apply_gate(&b.view(), image.form, g, place, cur, names, a, room);

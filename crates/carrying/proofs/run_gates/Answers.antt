@@ -7,7 +7,7 @@ use Prim.Native.Nat.{◌+◌, ◌-◌, ◌*◌}
 use native.Mathlib.Omega.{arith}
 use Rattle.gates.specs.Circuit.{gt_size, gate_at}
 use Rattle.circuits.specs.Answer.{gate_is, gate_told}
-use Rattle.carrying.proofs.Turns.{long_on, names_on, at_spot, ends, turned, turned_down}
+use Rattle.carrying.proofs.Turns.{long_on, same_on, names_on, at_spot, ends, turned, turned_down}
 use Rattle.carrying.proofs.run_gates.Goals as goal
 
 pub loop-i-preserved : goal.loop-i-preserved
@@ -19,6 +19,8 @@ loop-i-preserved c =
       long_on c.loop-i.invariant.1 long.0,
       long_on c.loop-i.invariant.2 long.1,
       names_on c.loop-i.invariant.3 long.2,
+      same_on c.loop-i.invariant.4 c.turn.ensures.same_slices.0,
+      same_on c.loop-i.invariant.5 c.turn.ensures.same_slices.1,
     )
 
 pub returns-in_err-made-clause-carried : goal.returns-in_err-made-clause-carried

@@ -22,6 +22,7 @@ returns-in_err-form c =
       value = λ source. rw e (fault_value (bounds_of c.args.bounds) source c.args.file.now _ (c.in_err-form.ensures source));
       holding = λ source Q g. absurd (not_good (bounds_of c.args.bounds) source c.args.file.now _ (c.in_err-form.ensures source) Q g);
       long = record { rows = refl; masks = refl; coefs = refl; counts = refl; first = refl };
+      same_slices = record { rows = refl; masks = refl; coefs = refl; counts = refl; first = refl };
     }
 
 pub returns : goal.returns
@@ -33,4 +34,5 @@ returns c =
           let t = taken (bounds_of c.args.bounds) source c.args.file.now _ (c.in_ok-form.ensures source) in
           loaded t bytes (roomy t bytes (roomy-kept c.requires c.unpack.ensures.long)) c.unpack.ensures.unpacked Q g;
       long = c.unpack.ensures.long;
+      same_slices = c.unpack.ensures.same_slices;
     }

@@ -1,5 +1,6 @@
 -- The steps leave the records of the file in the slices, so the rows' states rise as the records' do, which is what the beginnings ask.
 -- Assumes nothing.
+use mathlib.Core.Path.{refl}
 use Prim.Native.Nat.{◌+◌, ◌≤◌}
 use native.Mathlib.Omega.{arith}
 use lib.ListN.{length}
@@ -33,4 +34,5 @@ returns c =
     record {
       unpacked = unpacked c.requires.ready h c.fill_first.ensures;
       long = record { rows = omega arith; masks = omega arith; coefs = omega arith; counts = omega arith; first = omega arith };
+      same_slices = record { rows = refl; masks = refl; coefs = refl; counts = refl; first = refl };
     }
