@@ -48,8 +48,7 @@ pub fn run_gates(
     for i in 0..count {
         let g = gate_at(form.n, circuit, i as usize * GT_SIZE).unwrap();
         let place = i as u32 + 1;
-        let made = turn(image, g, place, a, b, cur, names, room)?;
-        image = image.next(made);
+        image = image.next(turn(image, g, place, a, b, cur, names, room))?;
     }
     Ok(image)
 }

@@ -1,10 +1,11 @@
 -- Document 01, "Replies" 14 to 16: how what building left of a gate's set is judged.
-use Rattle.std.specs.Prelude.{Bool, not, ℕ, Option, Some, None}
+use Rattle.std.specs.Prelude.{Bool, not, ℕ, Option, Some, None, Result, Ok, Err}
 use Rattle.stored.specs.Refusal.{Judged, refused, good, need, refusal, circuit_source}
 use Rattle.stored.specs.Rules.{Bounds}
 use Rattle.gates.specs.Gate.{Kind}
 use Rattle.gates.specs.Gate as gate
 use Rattle.gates.specs.Build.{growth}
+use Rattle.refusals.specs.declared.Refusal.{Refusal}
 use Rattle.setfile.specs.declared.Form.{Form}
 use Rattle.building.specs.declared.Room.{Room}
 use Rattle.building.specs.declared.Outcome.{Outcome}
@@ -34,3 +35,8 @@ picked small built place n k = need small (refusal 15 circuit_source place) (siz
 -- the set after a gate: in the other table
 abbrev pub next_image : Image → Form → Image
 next_image i f = record { form = f; second = not i.second }
+
+-- what a gate's answer makes of the image so far
+abbrev pub next_of : Image → Result Form Refusal → Result Image Refusal
+next_of i (Ok f) = Ok (next_image i f)
+next_of i (Err r) = Err r

@@ -10,7 +10,7 @@ ghost use Rattle.circuits.specs.Answer.{gate_is, kind_is};
 ghost use Rattle.refusals.specs.Refused.{number_of, told, judged};
 ghost use Rattle.tables.specs.Unpack.{Begun};
 ghost use Rattle.building.specs.declared.Outcome.{Outcome};
-ghost use Rattle.settling.specs.Result.{kind_growth, made_of, picked, next_image};
+ghost use Rattle.settling.specs.Result.{kind_growth, made_of, picked, next_of};
 ghost use Rattle.settling.specs.Standing.{Indexable};
 
 use building::Outcome;
@@ -27,14 +27,14 @@ pub struct Image {
 }
 
 impl Image {
-    // The image after a gate: in the other table.
-    pub fn next(self, form: Form) -> Image
-        ensures { result ≡ next_image self form }
+    // The image after a gate: the set that it made, in the other table, or its refusal.
+    pub fn next(self, made: Result<Form, Refusal>) -> Result<Image, Refusal>
+        ensures { result ≡ next_of self made }
     {
-        Image {
-            form,
+        Ok(Image {
+            form: made?,
             second: !self.second,
-        }
+        })
     }
 }
 
