@@ -32,6 +32,13 @@ sized (Some r) place n k = need r.fits (refusal 16 circuit_source place) (good (
 abbrev pub picked : Bool → Option Outcome → ℕ → ℕ → ℕ → Judged Form
 picked small built place n k = need small (refusal 15 circuit_source place) (sized built place n k)
 
+-- the same order over the three tests alone
+abbrev pub ordered : Bool → Bool → Bool → ℕ → Judged Unit
+ordered k sizes leaves place =
+    need k (refusal 15 circuit_source place)
+    (need sizes (refusal 14 circuit_source place)
+    (need leaves (refusal 16 circuit_source place) (good tt)))
+
 -- the set after a gate: in the other table
 abbrev pub next_image : Image → Form → Image
 next_image i f = record { form = f; second = not i.second }

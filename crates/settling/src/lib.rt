@@ -1,5 +1,5 @@
 // Document 01, replies 14 to 16: what building left of a gate's set is judged, "gate by gate 15, 14, 16 .. (earliest first)", and the set so far
-// after it.
+// after it. Each test is made once and one function picks the number, so their order stands in one place.
 #![tactic(auto)]
 
 ghost use Rattle.std.specs.Prelude.{◌≡◌, true, ◌+◌, ◌<◌, leb, Some};
@@ -10,7 +10,7 @@ ghost use Rattle.circuits.specs.Answer.{gate_is, kind_is};
 ghost use Rattle.refusals.specs.Refused.{number_of, told, judged};
 ghost use Rattle.tables.specs.Unpack.{Begun};
 ghost use Rattle.building.specs.declared.Outcome.{Outcome};
-ghost use Rattle.settling.specs.Result.{kind_growth, made_of, picked, next_of};
+ghost use Rattle.settling.specs.Result.{kind_growth, made_of, ordered, picked, next_of};
 ghost use Rattle.settling.specs.Standing.{Indexable};
 
 use building::Outcome;
@@ -69,6 +69,22 @@ fn refused(reason: Reason, place: u32) -> Refusal
     }
 }
 
+// "gate by gate 15, 14, 16": the first of them that k, the sizes or the leaves are refused by.
+fn judge(k: bool, sizes: bool, leaves: bool, place: u32) -> Result<(), Refusal>
+    ensures { judged result ≡ ordered k sizes leaves place }
+{
+    if !k {
+        return Err(refused(Reason::Scale, place));
+    }
+    if !sizes {
+        return Err(refused(Reason::Sizes, place));
+    }
+    if !leaves {
+        return Err(refused(Reason::Coefficients, place));
+    }
+    Ok(())
+}
+
 // What building left is judged: "gate by gate 15, 14, 16". Where it is a set, the row where each state's records begin is found.
 pub fn settle(
     form: Form,
@@ -86,15 +102,10 @@ pub fn settle(
         → Begun rows.now (r.inner + r.leaves) (r.states + 1) first.new }
 {
     let k = form.k + grown;
-    if K_MOST < k {
-        return Err(refused(Reason::Scale, place));
-    }
-    let Some(r) = built else {
-        return Err(refused(Reason::Sizes, place));
-    };
-    if !r.fits {
-        return Err(refused(Reason::Coefficients, place));
-    }
+    let small = k <= K_MOST;
+    let fits = built.is_some_and(|r| r.fits);
+    judge(small, built.is_some(), fits, place)?;
+    let r = built.unwrap();
     let made = Form {
         n: form.n,
         k,
