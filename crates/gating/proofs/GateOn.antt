@@ -1,5 +1,5 @@
 -- A start set that was taken and its circuit's one gate: what is asked of the gate, and what the job's judgement comes to. Assumes nothing.
-use mathlib.Core.Path.{◌≡◌, sym, ap, ◌∙◌, subst}
+use mathlib.Core.Path.{◌≡◌, refl, sym, ap, ◌∙◌, subst}
 use mathlib.Core.List.{List}
 use Prim.Native.Nat.{ℕ}
 use lib.IntN.{ℤ}
@@ -24,6 +24,10 @@ use Rattle.circuits.specs.Answer.{gate_is}
 use Rattle.circuits.specs.declared.Gate.{Gate}
 use Rattle.setfile.specs.declared.Form.{Form}
 use Rattle.tables.specs.Table.{table_set}
+use Rattle.tables.specs.declared.TableMut.{TableMut}
+use Rattle.tables.specs.Slices.{Table, SameLengths, SameLent}
+use Rattle.names.specs.declared.Names.{Names}
+use Rattle.growing.specs.Growing.{SameNames}
 use Rattle.standing.specs.Standing.{form_of, set_in, Stands, Holding}
 use Rattle.gating.specs.Gated.{one_judged, gated_by, new_set_by}
 use Rattle.gating.proofs.OneRead.{gate_read, no_gate, one-light, one-fit, gated, not_gated}
@@ -40,6 +44,16 @@ staged (Err f) q source was m e = ap judged (sym was) ∙ rw m e
 pub away : {j : Judged QSet} {r : Refusal} {result : Result Form Refusal} → result ≡ Err r → j ≡ refused (told r)
     → (judged result ≡ seen form_of j) × ((N : QSet) → j ≡ good N → ⊥)
 away {j} {r} e h = (rw (e, h), λ N g. let z : ◌≡◌ {A = ℕ} 0 1 = cc in omega arith)
+
+-- a table, and names, that are not written
+pub as_long : {T : Table} → SameLengths T T
+as_long = record { rows = refl; masks = refl; coefs = refl; counts = refl; first = refl }
+
+pub as_lent : {t : TableMut} → SameLent t t
+as_lent = record { rows = refl; masks = refl; coefs = refl; counts = refl; first = refl }
+
+pub as_named : {n : Names} → SameNames n n
+as_named = record { keys_same = refl; link_same = refl; heads_same = refl; keys_long = refl; link_long = refl; heads_long = refl }
 
 module _ (n : ℕ) (c : List ℕ) (g : Gate) (e : judged (Ok g) ≡ one_judged (judge_one n c)) where
   pub may_apply : Light (gate_is g) × Fits n (gate_is g)

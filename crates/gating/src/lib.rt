@@ -13,8 +13,9 @@ ghost use Rattle.jobs.specs.Reply.{made as Reply·made};
 ghost use Rattle.jobs.specs.OneGate.{with_file};
 ghost use Rattle.refusals.specs.Refused.{judged, seen};
 ghost use Rattle.replies.specs.Replied.{fields_of, reply_from};
-ghost use Rattle.tables.specs.Slices.{table_is, lent_is, set_on, RoomyOn};
+ghost use Rattle.tables.specs.Slices.{table_is, lent_is, set_on, RoomyOn, SameLengths, SameLent};
 ghost use Rattle.packing.specs.Written.{at_front};
+ghost use Rattle.growing.specs.Growing.{SameNames};
 ghost use Rattle.building.specs.Going.{ListsIn};
 ghost use Rattle.standing.specs.Standing.{form_of};
 ghost use Rattle.standing.specs.Tables.{StandsOn, HoldingOn};
@@ -71,6 +72,8 @@ fn new_set(
     requires lent { LentOn (lent_is new.old) n_most room }
     ensures value { judged result ≡ seen form_of (new_set_by (bounds_from room) set.now circuit.now) }
     ensures holding { (N : QSet) → new_set_by (bounds_from room) set.now circuit.now ≡ good N → HoldingOn (lent_is new.new) N (bounds_from room) }
+    ensures long { SameLengths (lent_is old.old) (lent_is old.new) × SameLengths (lent_is new.old) (lent_is new.new) × SameNames names.old names.new }
+    ensures same_slices { SameLent old.old old.new × SameLent new.old new.new }
 {
     let bounds = Bounds {
         states: room.states,
@@ -98,6 +101,8 @@ pub fn gate_file(
     requires target { TargetOn cur.old names.old (lent_is new.old) output.old room }
     ensures value { fields_of result ≡ reply_from (length_reply (new_set_by (bounds_from room) set.now circuit.now)) }
     ensures output_after { output.new ≡ with_file output.old (new_set_by (bounds_from room) set.now circuit.now) }
+    ensures long { SameLengths (lent_is old.old) (lent_is old.new) × SameLengths (lent_is new.old) (lent_is new.new) × SameNames names.old names.new }
+    ensures same_slices { SameLent old.old old.new × SameLent new.old new.new }
 {
     match new_set(set, circuit, old, cur, names, new, room) {
         Err(r) => Reply::Refused(r),

@@ -30,7 +30,7 @@ store-requires c =
 pub returns-in-Err : goal.returns-in-Err
 returns-in-Err c =
     let k = turned_down form_of (new_set_by (bounds_from c.args.room) c.args.set.now c.args.circuit.now) _ c.in-Err.ensures.value in
-    record { value = rw k (is-refusal _); output_after = rw k }
+    record { value = rw k (is-refusal _); output_after = rw k; long = c.new_set.ensures.long; same_slices = c.new_set.ensures.same_slices }
 
 pub returns-in-Ok : goal.returns-in-Ok
 returns-in-Ok c =
@@ -40,4 +40,6 @@ returns-in-Ok c =
     record {
       value = made_reply h k.value j k.good (c.store.ensures.value ∙ ap (λ (T : Table). reply_from (made (length (file_of (set_on c.in-Ok.form T))))) c.view-table.ensures);
       output_after = made_output h k.value j k.good c.args.output.now (c.store.ensures.output_after ∙ ap (λ (T : Table). at_front (file_of (set_on c.in-Ok.form T)) c.args.output.now) c.view-table.ensures);
+      long = c.new_set.ensures.long;
+      same_slices = c.new_set.ensures.same_slices;
     }

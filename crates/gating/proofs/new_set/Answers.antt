@@ -10,18 +10,18 @@ use Rattle.standing.specs.Standing.{form_of}
 use Rattle.standing.specs.Tables.{StandsOn}
 use Rattle.settling.specs.Result.{bounds_from}
 use Rattle.gating.proofs.Storing.{n-few, lent-for}
-use Rattle.gating.proofs.GateOn.{away, staged, may_apply, not_started, started_stands, not_one, one_gate}
+use Rattle.gating.proofs.GateOn.{away, staged, as_long, as_lent, as_named, may_apply, not_started, started_stands, not_one, one_gate}
 use Rattle.gating.proofs.new_set.Goals as goal
 
 pub returns-in_err-form : goal.returns-in_err-form
 returns-in_err-form c =
     let k = away (search rules) (not_started (bounds_from c.args.room) c.args.set.now c.args.circuit.now _ (staged c.load.result c.map_err.result Start c.in_err-form.was (search rules) (c.load.ensures.value 1))) in
-    record { value = k.0; holding = λ N g. absurd (k.1 N g) }
+    record { value = k.0; holding = λ N g. absurd (k.1 N g); long = (c.load.ensures.long, as_long, as_named); same_slices = (c.load.ensures.same_slices, as_lent) }
 
 pub returns-in_err-g : goal.returns-in_err-g
 returns-in_err-g c =
     let k = away (search rules) (not_one (bounds_from c.args.room) c.args.set.now (staged c.load.result c.map_err.result Start c.in_ok-form.was (search rules) (c.load.ensures.value 1)) (c.load.ensures.holding 1) c.args.circuit.now _ c.in_err-g.ensures) in
-    record { value = k.0; holding = λ N g. absurd (k.1 N g) }
+    record { value = k.0; holding = λ N g. absurd (k.1 N g); long = (c.load.ensures.long, as_long, as_named); same_slices = (c.load.ensures.same_slices, as_lent) }
 
 pub apply_gate-requires : goal.apply_gate-requires
 apply_gate-requires c =
@@ -40,4 +40,6 @@ returns c =
     record {
       value = c.apply_gate.ensures.value ∙ ap (seen form_of) i;
       holding = λ N g. c.apply_gate.ensures.holding N (i ∙ g);
+      long = (c.load.ensures.long, c.apply_gate.ensures.long.0, c.apply_gate.ensures.long.1);
+      same_slices = (c.load.ensures.same_slices, c.apply_gate.ensures.same_slices);
     }
