@@ -24,7 +24,7 @@ use Rattle.ending.specs.Source.{LeafState, LeafKey}
 use Rattle.building.specs.declared.Room.{Room}
 use Rattle.building.specs.Fresh.{Fresh}
 use Rattle.building.specs.Going.{Old, Lists, Going, Rest}
-use Rattle.ending.proofs.OldLeaves.{rows-rise, leaf_state}
+use Rattle.oldleaves.proofs.OldLeaves.{rows-rise, leaf_state}
 
 module _ {T : Table} {k : ℕ} (t : Old T k) where
   -- an T.rows state's rows, as the levels of qubits are read

@@ -2,4 +2,3 @@ pub mod Steps
 pub mod Singles
 pub mod Pairs
 pub mod Keys
-pub mod OldLeaves

@@ -21,7 +21,7 @@ use Rattle.tables.proofs.Ordered.{formed-rises}
 use Rattle.lookup.specs.Lookup.{transition_row, pair_row}
 use Rattle.lookup.specs.Alts.{alts_from, moves_in}
 use Rattle.lookup.proofs.Finding.{rising, begin, end, rows-there, scan_hits}
-use Rattle.ending.proofs.OldLeaves.{tr-at, lf_at, leaf_state}
+use Rattle.oldleaves.proofs.OldLeaves.{tr-at, lf_at, leaf_state}
 use Rattle.stepping.proofs.Answers.{choose-rows}
 use Rattle.stepping.specs.Step.{Kin, Inner}
 use Rattle.fitting.specs.Fit.{Leafy}

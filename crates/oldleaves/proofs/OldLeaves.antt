@@ -25,8 +25,8 @@ use Rattle.tables.proofs.Ordered.{formed-rises}
 use Rattle.lookup.specs.Lookup.{pair_row}
 use Rattle.lookup.proofs.Finding.{rising, begin, end, rows-there}
 use Rattle.lookup.proofs.AltsLaws.{leaf_alts_lem}
-use Rattle.endrow.specs.Leaf.{leaf_amp, Readable}
-use Rattle.ending.specs.Source.{LeafState}
+use Rattle.oldleaves.specs.Leaf.{leaf_amp, Readable}
+use Rattle.oldleaves.specs.Source.{LeafState}
 
 each_record : {X : Type 0} (P : X → Type 0) (f : ℕ → X) (from count : ℕ) → Each P (records_from f from 1 count) → (i : ℕ) → i < count → P (f (from + i))
 unfolding records_from
