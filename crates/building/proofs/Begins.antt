@@ -10,6 +10,7 @@ use Rattle.gates.specs.Roles as def
 use Rattle.stored.specs.Fields.{records_from}
 use Rattle.tables.specs.Table.{tr_rows}
 use Rattle.stepwise.specs.Grow.{Level, begun, grow_all}
+use Rattle.names.specs.Chain.{Chained}
 use Rattle.names.proofs.ChainLaws as chains
 use Rattle.roles.specs.Kept.{role_is, role_from}
 use Rattle.roles.proofs.Cases.{role-back}
@@ -69,6 +70,17 @@ module _ (w : NewLevel) (most : Most) (o : def.Role) (found : Role) (e : found �
 
   pub over-begun : {rows masks keys : List ℕ} → r ≡ None → Climbed rows masks keys None most (grow_all eqb most.base (moves_of o old oldmasks first) start xs begun)
   over-begun is = record { stood = λ p e. cc; over = λ e. grew.over is }
+
+-- a level that grew has its chains through its keys
+pub chained-some : (w : NewLevel) (most : Most) (G : Level ℕ) → Grew w (Some tt) most G → (p : Progress) → Some w.done ≡ Some p → Chained w.keys.now w.link.now w.heads.now p.keys
+chained-some w most G g p e =
+    let same : w.done ≡ p = cc in
+    subst (λ (x : Progress). Chained w.keys.now w.link.now w.heads.now x.keys) same (g.growing refl).chained
+
+-- the same keys and chains by another name
+pub chained-in : {keys keys' link link' heads heads' : List ℕ} {r : Option Progress} → keys' ≡ keys → link' ≡ link → heads' ≡ heads
+    → ((p : Progress) → r ≡ Some p → Chained keys link heads p.keys) → (p : Progress) → r ≡ Some p → Chained keys' link' heads' p.keys
+chained-in a b c h = rw (a, b, c) h
 
 -- the same slices by another name
 pub stood-in : {rows rows' masks masks' keys keys' : List ℕ} {r : Option Progress} {most : Most} {G : Level ℕ} → rows' ≡ rows → masks' ≡ masks → keys' ≡ keys → Climbed rows masks keys r most G → Climbed rows' masks' keys' r most G

@@ -2,12 +2,13 @@
 // slices.
 #![tactic(auto)]
 
-ghost use Rattle.std.specs.Prelude.{◌≡◌, List, [], ◌∷◌, ℕ, ◌+◌, ◌<◌, ◌≤◌, eqb, length, get_or, take};
+ghost use Rattle.std.specs.Prelude.{◌≡◌, List, [], ◌∷◌, ℕ, ◌+◌, ◌<◌, ◌≤◌, eqb, length, get_or, take, Some};
 ghost use Rattle.gates.specs.Numbering.{all_rows};
 ghost use Rattle.gates.specs.Roles.{role};
 ghost use Rattle.stepwise.specs.Grow.{begun, grow_all};
 ghost use Rattle.circuits.specs.Answer.{gate_is};
 ghost use Rattle.tables.specs.Slices.{table_is};
+ghost use Rattle.names.specs.Chain.{Chained};
 ghost use Rattle.moving.specs.Moves.{moves_of};
 ghost use Rattle.leveling.specs.Keyed.{Keyed};
 ghost use Rattle.ending.specs.Ends.{ends_of};
@@ -78,6 +79,7 @@ pub fn one_level(
     ensures grew { Climbed rows.new masks.new keys.new result most
         (grow_all eqb most.base (moves_of (role (gate_is given.now.gate) here.level) given.now.table.rows.now given.now.table.masks.now given.now.table.first.now)
         here.start (take here.count cur.now) begun) }
+    ensures chained { (p : Progress) → result ≡ Some p → Chained keys.new link.new heads.new p.keys }
     ensures kept { Kept rows.old masks.old keys.old link.old heads.old
         rows.new masks.new keys.new link.new heads.new }
 {
