@@ -1,5 +1,5 @@
 -- The definitions' roles, sides and keys as the code has them.
-use Rattle.std.specs.Prelude.{ℕ}
+use Rattle.std.specs.Prelude.{ℕ, ◌-◌, ◌%◌, cond, eqb}
 use Rattle.gates.specs.Gate as gate
 use Rattle.gates.specs.Key as key
 use Rattle.gates.specs.Key.{stored}
@@ -56,6 +56,10 @@ abbrev pub shift_in : Single → ℕ
 shift_in as-single.Plain = 0
 shift_in as-single.Inside = 0
 shift_in (as-single.Shifted j) = j
+
+-- what the tag of a stored key that is no pair says, for every number
+abbrev pub single_of : ℕ → Single
+single_of tag = cond (eqb tag 0) as-single.Plain (cond (eqb tag 1) as-single.Inside (as-single.Shifted ((tag - 4) % 256)))
 
 -- the children of a state that is no pair
 abbrev pub single_kids : def.Role → Single → ℕ × ℕ → Two

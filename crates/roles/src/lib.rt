@@ -8,7 +8,7 @@ ghost use Rattle.gates.specs.Key.{packed, stored, turned};
 ghost use Rattle.gates.specs.Matrix.{back};
 ghost use Rattle.gates.specs.Roles.{role, kind_kids, plain_kids, inside_kids, cross_kids, both_kids, pair_kids};
 ghost use Rattle.stepwise.specs.Code.{tag_in, unstored};
-ghost use Rattle.roles.specs.Kept.{role_from, role_is, role_alone, role_under, side_is, key_is, kids_of, shift_in, single_kids};
+ghost use Rattle.roles.specs.Kept.{role_from, role_is, role_alone, role_under, side_is, key_is, kids_of, shift_in, single_of, single_kids};
 
 use circuits::{Gate, Kind};
 
@@ -46,6 +46,17 @@ pub enum Single {
 }
 
 impl Single {
+    // What the tag of a stored key that is no pair says: plain, inside, or shifted by what is over SHIFTED. Any other number says one of these too.
+    pub fn of(tag: u16) -> Single
+        ensures { result ≡ single_of tag }
+    {
+        match tag {
+            PLAIN => Single::Plain,
+            INSIDE => Single::Inside,
+            shifted => Single::Shifted((shifted.saturating_sub(SHIFTED) % 256) as u8),
+        }
+    }
+
     // The j of a shifted state, or 0.
     pub fn shift(self) -> u8
         ensures { result ≡ shift_in self }
@@ -101,15 +112,13 @@ impl Key {
         requires { tag_in x < 260 }
         ensures { key_is result ≡ unstored x }
     {
-        let tag = x / 65536 / 65536;
+        let tag = (x / 65536 / 65536) as u16;
         let q = (x / 65536 % 65536) as u16;
         let p = (x % 65536) as u16;
-        match tag as u16 {
-            PLAIN => Key::One(Single::Plain, q),
-            INSIDE => Key::One(Single::Inside, q),
+        match tag {
             PAIR_L => Key::Pair(Side::L, q, p),
             PAIR_R => Key::Pair(Side::R, q, p),
-            shifted => Key::One(Single::Shifted((shifted - SHIFTED) as u8), q),
+            single => Key::One(Single::of(single), q),
         }
     }
 }
