@@ -112,3 +112,11 @@ module _ (T : Table) (g : Gate) where
         pub climbed-over : Below rows masks (set counts 0 count) rows' masks' coefs' counts' p.rows (less_room room p.rows count) None (numbered (level + 1) (left - 1) (start + count) (take p.keys keys))
             → Whole rows' masks' coefs' counts' room None (numbered level left start (take count cur))
         climbed-over b = gave_up (subst (TooMany room) same-levels (over_top rows masks room p.rows count (numbered (level + 1) (left - 1) (start + count) (take p.keys keys)) records-are few_rows few (b.whole.over refl)))
+
+        -- whether the levels below were built or given up
+        pub climbed-on : {r t : Option Outcome} → 1 ≤ length counts → p.rows * row_width ≤ length rows → p.rows ≤ length masks
+            → Below rows masks (set counts 0 count) rows' masks' coefs' counts' p.rows (less_room room p.rows count) r (numbered (level + 1) (left - 1) (start + count) (take p.keys keys))
+            → ((o : Outcome) → r ≡ Some o → t ≡ Some (on_levels p.rows count o)) → (r ≡ None → t ≡ None)
+            → Whole rows' masks' coefs' counts' room t (numbered level left start (take count cur))
+        climbed-on {r = None} c1 wide long b on over = rw (over refl) (climbed-over b)
+        climbed-on {r = Some below} c1 wide long b on over = rw (on below refl) (climbed c1 wide long b)

@@ -2,7 +2,7 @@
 // slices.
 #![tactic(auto)]
 
-ghost use Rattle.std.specs.Prelude.{◌≡◌, List, [], ◌∷◌, ℕ, ◌+◌, ◌<◌, ◌≤◌, eqb, length, get_or, take, Some};
+ghost use Rattle.std.specs.Prelude.{◌≡◌, List, [], ◌∷◌, ℕ, ◌+◌, ◌<◌, ◌≤◌, eqb, length, get_or, take, Some, None};
 ghost use Rattle.gates.specs.Numbering.{all_rows};
 ghost use Rattle.gates.specs.Roles.{role};
 ghost use Rattle.stepwise.specs.Grow.{begun, grow_all};
@@ -139,15 +139,17 @@ pub fn last_level(
     })
 }
 
-// A level of so many rows and states on top of the levels below it.
-pub fn topped(w: u16, count: u16, below: Outcome) -> Outcome
-    requires { (w + below.inner < 65536) × (count + below.states < 65536) }
-    ensures { result ≡ on_levels w count below }
+// A level of so many rows and states on top of the levels below it; None where there was no room for all of those.
+pub fn topped(w: u16, count: u16, below: Option<Outcome>) -> Option<Outcome>
+    requires { (o : Outcome) → below ≡ Some o → (w + o.inner < 65536) × (count + o.states < 65536) }
+    ensures on { (o : Outcome) → below ≡ Some o → result ≡ Some (on_levels w count o) }
+    ensures over { below ≡ None → result ≡ None }
 {
-    Outcome {
+    let below = below?;
+    Some(Outcome {
         inner: w + below.inner,
         leaves: below.leaves,
         states: count + below.states,
         fits: below.fits,
-    }
+    })
 }

@@ -65,8 +65,8 @@ pub fn build_levels(
     };
     let below = rest_levels(
         given, under, next, cur, link, heads, rows, masks, coefs, counts,
-    )?;
-    Some(topped(done.rows, here.count, below))
+    );
+    topped(done.rows, here.count, below)
 }
 
 // The same into the rest of the slices, past the rows of the level above and one count.

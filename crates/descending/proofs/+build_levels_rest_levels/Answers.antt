@@ -3,7 +3,7 @@
 use mathlib.Core.Path.{refl}
 use Prim.Native.Nat.{◌<◌, ◌≤◌}
 use Rattle.building.proofs.Steps.{gave_up}
-use Rattle.building.proofs.Climb.{first_count, last_numbered, level-over, next_going, climbed, climbed-over}
+use Rattle.building.proofs.Climb.{first_count, last_numbered, level-over, next_going, climbed-on}
 use Rattle.building.proofs.Rounds.{keyed, leaf-keys}
 use Rattle.circuits.specs.Answer.{gate_is}
 use Rattle.tables.specs.Slices.{table_is}
@@ -33,8 +33,8 @@ build_levels-returns-in_err-done t c =
     let more : 0 < c.args.here.left = omega (arith, c.if-here-eq0.false) in
     rw c.from_residual.ensures (gave_up (level-over (table_is c.args.given.now.table) (gate_is c.args.given.now.gate) c.args.here.room c.args.here.level c.args.here.left c.args.here.start c.args.here.count c.args.cur.now more there c.in_err-done.ensures.grew refl))
 
-pub build_levels-rest_levels-requires : goal.build_levels-rest_levels-requires
-build_levels-rest_levels-requires t c =
+pub build_levels-rest_levels-below-requires : goal.build_levels-rest_levels-below-requires
+build_levels-rest_levels-below-requires t c =
     let there : c.args.here.count ≤ length c.args.cur.now = omega (arith, c.requires.lists.here, c.requires.rest.few) in
     let more : 0 < c.args.here.left = omega (arith, c.if-here-eq0.false) in
     let g = c.in_ok-done.ensures.grew.stood c.in_ok-done.done refl in (
@@ -42,27 +42,18 @@ build_levels-rest_levels-requires t c =
       (next_going (table_is c.args.given.now.table) (gate_is c.args.given.now.gate) c.args.here.room c.args.here.level c.args.here.left c.args.here.start c.args.here.count c.args.cur.now more there c.in_ok-done.ensures.grew c.in_ok-done.done refl c.requires.going, (lists_on c.in_ok-done.ensures.kept c.requires.lists c.requires.rest.few, rest_on c.in_ok-done.ensures.kept c.requires.rest more g.rows_few g.keys_few)),
     )
 
-pub build_levels-returns-in_err-below : goal.build_levels-returns-in_err-below
-build_levels-returns-in_err-below t c =
-    let there : c.args.here.count ≤ length c.args.cur.now = omega (arith, c.requires.lists.here, c.requires.rest.few) in
-    let more : 0 < c.args.here.left = omega (arith, c.if-here-eq0.false) in
-    let g = c.in_ok-done.ensures.grew.stood c.in_ok-done.done refl in
-    rw c.from_residual-in_err-below.ensures (climbed-over (table_is c.args.given.now.table) (gate_is c.args.given.now.gate) c.args.here.room c.args.here.level c.args.here.left c.args.here.start c.args.here.count c.args.cur.now more there c.in_ok-done.ensures.grew c.in_ok-done.done refl c.args.counts.now c.requires.rest.few g.rows_few c.in_err-below.ensures)
-
 pub build_levels-topped-requires : goal.build_levels-topped-requires
 build_levels-topped-requires t c =
     let g = c.in_ok-done.ensures.grew.stood c.in_ok-done.done refl in
-    let b = c.in_ok-below.ensures.whole.made c.in_ok-below.below refl in
-    (omega (arith, g.rows_few, b.inner_few), omega (arith, c.requires.rest.few, b.states_few))
+    λ o e. (let b = c.rest_levels-below.ensures.whole.made o e in (omega (arith, g.rows_few, b.inner_few), omega (arith, c.requires.rest.few, b.states_few)))
 
 pub build_levels-returns : goal.build_levels-returns
 build_levels-returns t c =
     let there : c.args.here.count ≤ length c.args.cur.now = omega (arith, c.requires.lists.here, c.requires.rest.few) in
     let more : 0 < c.args.here.left = omega (arith, c.if-here-eq0.false) in
     let g = c.in_ok-done.ensures.grew.stood c.in_ok-done.done refl in
-    rw c.topped.ensures
-    (climbed (table_is c.args.given.now.table) (gate_is c.args.given.now.gate) c.args.here.room c.args.here.level c.args.here.left c.args.here.start c.args.here.count c.args.cur.now more there c.in_ok-done.ensures.grew c.in_ok-done.done refl c.args.counts.now c.requires.rest.few g.rows_few (omega (arith, c.requires.rest.counted)) (omega (arith, c.requires.rest.wide.wide, c.in_ok-done.ensures.kept.rows_long, g.rows_few)) (omega (arith, c.requires.rest.wide.long, c.in_ok-done.ensures.kept.masks_long, g.rows_few))
-    c.in_ok-below.ensures)
+    climbed-on (table_is c.args.given.now.table) (gate_is c.args.given.now.gate) c.args.here.room c.args.here.level c.args.here.left c.args.here.start c.args.here.count c.args.cur.now more there c.in_ok-done.ensures.grew c.in_ok-done.done refl c.args.counts.now c.requires.rest.few g.rows_few (omega (arith, c.requires.rest.counted)) (omega (arith, c.requires.rest.wide.wide, c.in_ok-done.ensures.kept.rows_long, g.rows_few)) (omega (arith, c.requires.rest.wide.long, c.in_ok-done.ensures.kept.masks_long, g.rows_few))
+    c.rest_levels-below.ensures c.topped.ensures.on c.topped.ensures.over
 
 pub rest_levels-build_levels-requires : goal.rest_levels-build_levels-requires
 rest_levels-build_levels-requires t c =
