@@ -54,6 +54,7 @@ module _ {rows masks : List ℕ} {coefs : List ℤ} {counts first : List ℕ} {f
     bounds = b;
     few = few;
     formed = s.formed;
+    counts = counts;
     unpacked = s.unpacked;
     roomy = roomy;
     scale = sym (set-k form rows masks coefs counts);

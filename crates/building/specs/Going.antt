@@ -6,21 +6,26 @@ use Rattle.stored.proofs.WellFormed.{WellFormed}
 use Rattle.gates.specs.Gate.{Gate}
 use Rattle.gates.specs.Key.{radix}
 use Rattle.tables.specs.Table.{row_width, leaf_width}
-use Rattle.tables.specs.Slices.{Table, RoomyOn, UnpackedOn}
+use Rattle.tables.specs.Slices.{Table, table_of, RoomyOn, UnpackedOn}
 use Rattle.names.specs.declared.Names.{Names}
 use Rattle.stepwise.proofs.StoredLaws.{Light}
 use Rattle.tablewise.proofs.TableKeys.{StatesOf}
 use Rattle.building.specs.declared.Room.{Room}
 use Rattle.building.specs.Whole.{Wide}
 
--- the table holds a well-formed set, at k
+-- the table with other counts of states
+abbrev pub with_counts : Table → List ℕ → Table
+with_counts T counts = table_of T.rows T.masks T.coefs counts T.first
+
+-- the table holds a well-formed set, at k, with some counts of states: its own slice of them is not read
 pub record Old (T : Table) (k : ℕ) : Type 0 where
   pub set : QSet
   pub bounds : Bounds
   pub few : bounds.states < radix
   pub formed : WellFormed bounds set
-  pub unpacked : UnpackedOn T set
-  pub roomy : RoomyOn T set.n (sum set.counts) (length set.inner) (length set.leaves)
+  pub counts : List ℕ
+  pub unpacked : UnpackedOn (with_counts T counts) set
+  pub roomy : RoomyOn (with_counts T counts) set.n (sum set.counts) (length set.inner) (length set.leaves)
   pub scale : k ≡ set.k
 
 -- lists of keys and chains with room for so many states and two more, whose numbers from `start` on fit 16 bits
