@@ -2,7 +2,8 @@
 #![tactic(auto)]
 
 ghost use Rattle.std.specs.Prelude.{◌≡◌, ◌+◌, ◌/◌, ◌≤◌, length};
-ghost use Rattle.gates.specs.Circuit.{gt_size, gates_most, gate_at, judge_gates, judge_circuit, judge_one};
+ghost use Rattle.stored.specs.Rules.{first_bad};
+ghost use Rattle.gates.specs.Circuit.{gt_size, gates_most, gate_at, is_gate, records_of, judge_gates, judge_circuit, judge_one};
 ghost use Rattle.refusals.specs.Refused.{judged, seen};
 ghost use Rattle.circuitfile.specs.Faults.{gate_fault};
 
@@ -24,10 +25,9 @@ fn fault_at(n: u8, s: &[u8], at: usize) -> Option<Reason>
     }
 }
 
-// The records of a circuit that is not too long: 12 with the place of the first wrong one, from 1, or how many gates they are.
-fn read_gates(s: &[u8], n: u8) -> Result<u16, Refusal>
-    requires { length s.now / gt_size ≤ gates_most }
-    ensures { judged result ≡ seen length (judge_gates n s.now) }
+// The number, from 0, of the first record that is no gate; how many records there are where each is one.
+pub fn first_wrong(n: u8, s: &[u8]) -> usize
+    ensures { result ≡ first_bad is_gate (records_of n s.now) }
 {
     let records = Records {
         at: 0,
@@ -35,13 +35,26 @@ fn read_gates(s: &[u8], n: u8) -> Result<u16, Refusal>
         count: s.len() / GT_SIZE,
     };
     match first_bad(records, |at| fault_at(n, s, at)) {
-        None => Ok(records.count as u16),
-        Some((i, reason)) => Err(Refusal {
-            reason,
-            source: Source::Circuit,
-            place: i as u32 + 1,
-        }),
+        None => records.count,
+        Some((i, _)) => i,
     }
+}
+
+// The records of a circuit that is not too long: 12 with the place of the first wrong one, from 1, or how many gates they are.
+fn read_gates(s: &[u8], n: u8) -> Result<u16, Refusal>
+    requires { length s.now / gt_size ≤ gates_most }
+    ensures { judged result ≡ seen length (judge_gates n s.now) }
+{
+    let count = s.len() / GT_SIZE;
+    let wrong = first_wrong(n, s);
+    if wrong == count {
+        return Ok(count as u16);
+    }
+    Err(Refusal {
+        reason: Reason::Gate,
+        source: Source::Circuit,
+        place: wrong as u32 + 1,
+    })
 }
 
 // A circuit of a length that no job takes.
