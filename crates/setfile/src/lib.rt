@@ -250,10 +250,8 @@ impl WholeFile<'_> {
     {
         let s = self.bytes;
         let form = self.form;
-        fault_at(
-            first_bad(form.trs(), |at| tr_fault(s, form.n, at)),
-            form.first_tr(),
-        )
+        let bad = first_bad(form.trs(), |at| tr_fault(s, form.n, at));
+        fault_at(bad, form.first_tr())
     }
 
     // Rule 9: the first LF record that breaks it.
