@@ -30,8 +30,12 @@ pub record BlockOf (k : Task) (w : Walk) (place : Place) (b : Block) : Type 0 wh
   pub row : b.row.now ≡ w.reached.now
   pub stack : b.stack.now ≡ w.stack.now
 
--- the rows are as long as they were
+-- the rows stay the same ones, with their lengths
 pub record SameRows (w w' : Walk) : Type 0 where
+  pub may_same : w'.may.ghost_name ≡ w.may.ghost_name
+  pub met_same : w'.met.ghost_name ≡ w.met.ghost_name
+  pub stack_same : w'.stack.ghost_name ≡ w.stack.ghost_name
+  pub reached_same : w'.reached.ghost_name ≡ w.reached.ghost_name
   pub may : length w'.may.now ≡ length w.may.now
   pub met : length w'.met.now ≡ length w.met.now
   pub stack : length w'.stack.now ≡ length w.stack.now

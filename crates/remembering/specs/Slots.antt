@@ -29,9 +29,13 @@ HeldIn s b k at m = Held at b.from b.to b.p b.wide b.plane b.room b.cells k b.ro
 abbrev pub MemoryIn : Slots → Block → (ℕ → ℕ) → Saying → Type 0
 MemoryIn s b low good = Memory b.wide b.plane b.room b.cells s.count low good s.seen.now s.rows.now s.kept.now
 
--- the number of slots and the lengths are what they were
+-- the slices stay the same ones, with their lengths, and so many slots
 pub record SameSizes (s s' : Slots) : Type 0 where
   pub count : s'.count ≡ s.count
+  pub rows_same : s'.rows.ghost_name ≡ s.rows.ghost_name
+  pub kept_same : s'.kept.ghost_name ≡ s.kept.ghost_name
+  pub seen_same : s'.seen.ghost_name ≡ s.seen.ghost_name
+  pub turn_same : s'.turn.ghost_name ≡ s.turn.ghost_name
   pub rows : length s'.rows.now ≡ length s.rows.now
   pub kept : length s'.kept.now ≡ length s.kept.now
   pub seen : length s'.seen.now ≡ length s.seen.now
