@@ -39,7 +39,9 @@ pub struct NewLevel<'a> {
 }
 
 impl NewLevel<'_> {
-    // One record more of a state, with the stored keys of its left and its right child; None where the bounds would be passed.
+    // One record more of a state, with the stored keys of its left and its right child; None where the bounds would be passed. Inline, so that a
+    // level's slices and counts are not read and written back at each record.
+    #[inline(always)]
     pub fn grow(&mut self, state: u16, mask: u32, first: u64, second: u64) -> Option<()>
         requires { Growing self.old }
         ensures grew { Grew self.new result self.old.most (step.grow eqb self.old.most.base state mask first second (level_in self.old)) }
