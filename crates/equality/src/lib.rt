@@ -92,10 +92,21 @@ pub fn raised(x: Amplitude, d: u8) -> Wide
     }
 }
 
+// "the same four numbers"
+#[tactic(auto, using(crate::proofs::Bits::same_int))]
+fn same_numbers(x: Wide, y: Wide) -> bool
+    ensures { result ≡ same_a (wide_is x) (wide_is y) }
+{
+    x == y
+}
+
 // The leaves with the numbers x at k, and y at l, are equal.
 pub fn same(k: u8, x: Amplitude, l: u8, y: Amplitude) -> bool
     requires { (k ≤ k_most) × InRange x × (l ≤ k_most) × InRange y }
     ensures { result ≡ same (leaf k (amp_is x)) (leaf l (amp_is y)) }
 {
-    raised(x, l.saturating_sub(k)) == raised(y, k.saturating_sub(l))
+    same_numbers(
+        raised(x, l.saturating_sub(k)),
+        raised(y, k.saturating_sub(l)),
+    )
 }
