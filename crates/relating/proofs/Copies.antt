@@ -1,14 +1,58 @@
--- What copied words leave of a stack of planes. Assumes nothing.
+-- Words copied one by one, and what that leaves of a stack of planes. Assumes nothing.
 use mathlib.Core.Path.{◌≡◌, refl, sym, ap, ◌∙◌}
+use mathlib.Core.Bool.{Bool, true, false}
 use mathlib.Core.List.{List}
 use Prim.Native.Nat.{ℕ, ◌+◌, ◌-◌, ◌*◌, ◌<◌, ◌≤◌}
 use native.Mathlib.Decide.{dec_lt}
 use native.Mathlib.Nat.{mul-le-mul_right}
 use native.Mathlib.Omega.{arith}
-use lib.ListN.{get_or}
+use lib.Dec.{eqb}
+use lib.ListN.{length, get_or, set, length-set}
+use lib.Seq.{get_or-set_same, get_or-set_other}
+use borrow.Author.Tests.{eqb-true, eqb-false}
 use Rattle.meeting.specs.declared.Level.{Level}
 use Rattle.meeting.proofs.Places.{words-before}
 use Rattle.relating.specs.Planes.{Copied, Room, Added}
+
+-- the first i words are copied
+pub record Copying (source : List ℕ) (at : ℕ) (entry : List ℕ) (there count : ℕ) (words : List ℕ) (i : ℕ) : Type 0 where
+  pub few : i ≤ count
+  pub long : length words ≡ length entry
+  pub copied : Copied source at entry there i words
+
+pub begin : (source : List ℕ) (at : ℕ) (entry : List ℕ) (there count : ℕ) → Copying source at entry there count entry 0
+begin source at entry there count = record {
+  few = omega arith;
+  long = refl;
+  copied = record { taken = λ i h. absurd (omega arith); before = λ i h. refl; after = λ i h. refl };
+}
+
+module _ {source : List ℕ} {at : ℕ} {entry : List ℕ} {there count : ℕ} {words : List ℕ} {i : ℕ} (w : Copying source at entry there count words i) where
+  pub next : there + count ≤ length entry → i < count → Copying source at entry there count (set words (there + i) (get_or source (at + i) 0)) (i + 1)
+  next fits lt = record {
+    few = omega arith;
+    long = length-set words (there + i) (get_or source (at + i) 0) ∙ w.long;
+    copied = record {
+      taken = λ j h. go j h (eqb j i) refl;
+      before = λ j h. get_or-set_other words (there + i) j (get_or source (at + i) 0) 0 (λ e. omega arith) ∙ w.copied.before j h;
+      after = λ j h. get_or-set_other words (there + i) j (get_or source (at + i) 0) 0 (λ e. omega arith) ∙ w.copied.after j (omega arith);
+    };
+  }
+    where
+      go : (j : ℕ) → j < i + 1 → (b : Bool) → eqb j i ≡ b → get_or (set words (there + i) (get_or source (at + i) 0)) (there + j) 0 ≡ get_or source (at + j) 0
+      go j h true e =
+          let l = w.long in
+          let lt' : there + i < length words = omega arith in
+          rw (eqb-true j i e) (get_or-set_same words (there + i) (get_or source (at + i) 0) 0 lt')
+      go j h false e =
+          let ne = eqb-false j i e in
+          get_or-set_other words (there + i) (there + j) (get_or source (at + i) 0) 0 (λ f. ne (omega arith)) ∙ w.copied.taken j (omega (arith, ne))
+
+  pub all : count ≤ i → Copied source at entry there count words
+  all h =
+      let f = w.few in
+      let e : i ≡ count = omega arith in
+      rw e at w.copied
 
 -- ---- planes
 module _ {plane wide q : ℕ} {l : Level} {stack row : List ℕ} where

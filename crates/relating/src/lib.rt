@@ -26,12 +26,15 @@ pub fn cell(plane: u16, j: u16, at: usize) -> usize
     (j as usize) * (plane as usize) + at
 }
 
-// The words of `source` from `at` on, `count` of them, go to the words from `there` on.
+// The words of `source` from `at` on, `count` of them, go to the words from `there` on: one by one, since they are few, and the library's copy of a
+// part would ask whoever links the archive for memmove.
 pub fn copy_words(source: &[u32], at: usize, words: &mut [u32], there: usize, count: usize)
     requires { (at + count ≤ length source.now) × (there + count ≤ length words.old) }
     ensures { Copied source.now at words.old there count words.new }
 {
-    words[there..there + count].copy_from_slice(&source[at..at + count]);
+    for i in 0..count {
+        words[there + i] = source[at + i];
+    }
 }
 
 // The level's marks of plane k become those of another row.

@@ -1,16 +1,14 @@
--- One stretch of cells compared with another, or copied over it: what is known of each cell. Assumes nothing.
-use mathlib.Core.Path.{◌≡◌, sym, ap, ◌∙◌}
+-- One stretch of cells compared with another, or copied over it cell by cell: what is known of each cell. Assumes nothing.
+use mathlib.Core.Path.{◌≡◌, refl, sym, ap, ◌∙◌}
 use mathlib.Core.List.{List}
 use Prim.Native.Nat.{ℕ, ◌+◌, ◌-◌, ◌<◌, ◌≤◌}
-use native.Mathlib.Decide.{dec_lt}
+use native.Mathlib.Decide.{ℕ_discrete}
 use native.Mathlib.Omega.{arith}
-use lib.ListN.{length, get_or, take, drop}
-use lib.Seq.{get_or-drop}
+use lib.ListN.{length, get_or, set, length-set}
+use lib.Seq.{get_or-set_same, get_or-set_other}
 use Rattle.std.specs.List.{slice_range}
-use borrow.Rule.Slice.PartMut.{put_mid}
-use Rattle.std.proofs.lemmas.List.{length-take-le, get_or-take, get_or_append_left, get_or-append_right}
-use Rattle.std.proofs.lemmas.List.Edits.{get_or-between, length-between}
-use Rattle.remembering.specs.Copies.{Equal, Spans, Copied}
+use Rattle.std.proofs.lemmas.List.Edits.{get_or-between}
+use Rattle.remembering.specs.Copies.{Equal, Copied}
 
 -- cell i of a stretch that begins at `from`
 cell-of : (xs : List ℕ) (from to base i : ℕ) → from ≤ i → i < to → get_or (slice_range xs (base + from) (base + to)) (i - from) 0 ≡ get_or xs (base + i) 0
@@ -30,39 +28,43 @@ cells-equal from to base source target e = record {
   cells = λ i a b. sym (cell-of target from to base i a b) ∙ sym (ap (λ (v : List ℕ). get_or v (i - from) 0) e) ∙ cell-here source from to i a b;
 }
 
--- a stretch that is written is the source's, and every other cell is what it was
-module _ (from to base : ℕ) (source target : List ℕ) (w : Spans from to base (length source) (length target)) where
-  front-long : length (take (base + from) target) ≡ base + from
-  front-long = length-take-le (base + from) target (omega (arith, w.rising, w.target))
+-- the cells passed are the source's, and the others are as they were
+pub record Copying (from to base i : ℕ) (source entry target : List ℕ) : Type 0 where
+  pub after : from ≤ i
+  pub top : i ≤ to
+  pub long : length target ≡ length entry
+  pub done : Copied from i base source entry target
 
-  part-long : length (slice_range source from to) ≡ to - from
-  part-long = length-between source from to w.source
+module _ (from to base : ℕ) (source entry : List ℕ) where
+  pub copy_begin : from ≤ to → Copying from to base from source entry entry
+  copy_begin h = record {
+    after = omega arith;
+    top = h;
+    long = refl;
+    done = record { inside = record { cells = λ i a b. absurd (omega arith) }; outside = λ x h. refl };
+  }
 
-  inside : (i : ℕ) → from ≤ i → i < to → get_or (put_mid (base + from) (base + to - (base + from)) target (slice_range source from to)) (base + i) 0 ≡ get_or source i 0
-  inside i a b =
-      let e : base + i - (base + from) ≡ i - from = omega arith in
-      get_or-append_right (take (base + from) target) _ (base + from) (base + i) 0 front-long (omega arith)
-      ∙ get_or_append_left (slice_range source from to) _ 0 (base + i - (base + from)) (omega (arith, part-long))
-      ∙ ap (λ (j : ℕ). get_or (slice_range source from to) j 0) e ∙ cell-here source from to i a b
-
-  outside : (x : ℕ) → ((i : ℕ) → from ≤ i → i < to → x ≡ base + i → ⊥)
-      → get_or (put_mid (base + from) (base + to - (base + from)) target (slice_range source from to)) x 0 ≡ get_or target x 0
-  outside x h = go (dec_lt x (base + from))
+module _ {from to base i : ℕ} {source entry target : List ℕ} (w : Copying from to base i source entry target) where
+  pub copy_next : i < to → base + to ≤ length entry → Copying from to base (i + 1) source entry (set target (base + i) (get_or source i 0))
+  copy_next lt fits = record {
+    after = omega (arith, w.after);
+    top = omega arith;
+    long = length-set target (base + i) (get_or source i 0) ∙ w.long;
+    done = record {
+      inside = record { cells = λ k a b. go k a b (ℕ_discrete k i) };
+      outside = λ x h.
+          get_or-set_other target (base + i) x (get_or source i 0) 0 (h i w.after (omega arith))
+          ∙ w.done.outside x (λ k a b. h k a (omega arith));
+    };
+  }
     where
-      go : Dec (x < base + from) → get_or (put_mid (base + from) (base + to - (base + from)) target (slice_range source from to)) x 0 ≡ get_or target x 0
-      go (yes q) = get_or_append_left (take (base + from) target) _ 0 x (omega (arith, front-long)) ∙ get_or-take (base + from) target x 0 q
-      go (no q) =
-          let past : base + to ≤ x = after (dec_lt x (base + to)) in
-          let e : base + to - (base + from) + (base + from + (x - (base + from) - (to - from))) ≡ x = omega (arith, w.rising) in
-          get_or-append_right (take (base + from) target) _ (base + from) x 0 front-long (omega arith)
-          ∙ get_or-append_right (slice_range source from to) _ (to - from) (x - (base + from)) 0 part-long (omega (arith, w.rising))
-          ∙ get_or-drop (base + to - (base + from)) (drop (base + from) target) (x - (base + from) - (to - from)) 0
-          ∙ get_or-drop (base + from) target (base + to - (base + from) + (x - (base + from) - (to - from))) 0
-          ∙ ap (λ (j : ℕ). get_or target j 0) (omega (arith, w.rising))
-        where
-          after : Dec (x < base + to) → base + to ≤ x
-          after (yes r) = absurd (h (x - base) (omega arith) (omega arith) (omega arith))
-          after (no r) = omega arith
+      go : (k : ℕ) → from ≤ k → k < i + 1 → Dec (k ≡ i) → get_or (set target (base + i) (get_or source i 0)) (base + k) 0 ≡ get_or source k 0
+      go k a b (yes q) = rw q (get_or-set_same target (base + i) (get_or source i 0) 0 (omega (arith, w.long)))
+      go k a b (no q) =
+          get_or-set_other target (base + i) (base + k) (get_or source i 0) 0 (λ e. q (omega arith)) ∙ w.done.inside.cells k a (omega arith)
 
-  pub cells-copied : Copied from to base source target (put_mid (base + from) (base + to - (base + from)) target (slice_range source from to))
-  cells-copied = record { inside = record { cells = inside }; outside = outside }
+  pub copy_all : to ≤ i → Copied from to base source entry target
+  copy_all d = record {
+    inside = record { cells = λ k a b. w.done.inside.cells k a (omega arith) };
+    outside = λ x h. w.done.outside x (λ k a b. h k a (omega (arith, w.top)));
+  }

@@ -6,7 +6,7 @@
 #![tactic(auto)]
 
 ghost use Rattle.std.specs.Prelude.{true, IfSome, List, ◌≡◌, ℕ, suc, ◌+◌, ◌*◌, ◌≤◌, ◌<◌, length};
-ghost use Rattle.remembering.specs.Copies.{EqualPlanes, SpansPlanes, CopiedPlanes};
+ghost use Rattle.remembering.specs.Copies.{Copied, CopiedPlanes, EqualPlanes, Spans, SpansPlanes};
 ghost use Rattle.remembering.specs.Memory.{levels_most, cell_of, Saying};
 ghost use Rattle.remembering.specs.Slots.{PlacedIn, FitsIn, SameBlock, HasBlock, HeldIn, PutIn, SameAs, MemoryIn, SameSizes};
 
@@ -67,6 +67,27 @@ fn equal_planes(
     true
 }
 
+// Bytes from..to of a row become those of the other, which begins at base: one by one, since they are few, and the library's copy of a part would ask
+// whoever links the archive for memmove.
+fn copy_bytes(row: &[u8], rows: &mut [u8], from: usize, to: usize, base: usize)
+    requires { Spans from to base (length row.now) (length rows.old) }
+    ensures { Copied from to base row.now rows.old rows.new }
+{
+    for i in from..to {
+        rows[base + i] = row[i];
+    }
+}
+
+// The same of cells of 32 bits.
+fn copy_level(stack: &[u32], kept: &mut [u32], from: usize, to: usize, base: usize)
+    requires { Spans from to base (length stack.now) (length kept.old) }
+    ensures { Copied from to base stack.now kept.old kept.new }
+{
+    for i in from..to {
+        kept[base + i] = stack[i];
+    }
+}
+
 // The cells from..to of each of the first p planes become those of the other list, which begins at base.
 fn copy_planes(
     stack: &[u32],
@@ -82,7 +103,7 @@ fn copy_planes(
 {
     for done in 0..p {
         let (first, last) = (done * plane + from, done * plane + to);
-        kept[base + first..base + last].copy_from_slice(&stack[first..last]);
+        copy_level(stack, kept, first, last, base);
     }
 }
 
@@ -124,7 +145,7 @@ impl Slots<'_> {
     {
         let (from, to) = (block.from as usize, block.to as usize);
         let here = k as usize * block.cells as usize;
-        self.rows[here + from..here + to].copy_from_slice(&block.row[from..to]);
+        copy_bytes(block.row, self.rows, from, to, here);
         let (wide, plane) = (block.wide as usize, block.plane as usize);
         let base = k as usize * (block.room as usize * plane);
         copy_planes(

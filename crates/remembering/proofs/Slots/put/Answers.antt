@@ -1,9 +1,11 @@
 -- The slot's bytes and marks stand in its part of the rows and of the planes. Assumes nothing.
 use mathlib.Core.Path.{refl}
 use borrow.Author.Rules.{rules}
-use Rattle.remembering.proofs.CopyLaws.{cells-copied}
 use Rattle.remembering.proofs.SlotLaws.{in_slot}
 use Rattle.remembering.proofs.Slots.put.Goals as goal
+
+pub copy_bytes-requires : goal.copy_bytes-requires
+copy_bytes-requires c = in_slot c.requires
 
 pub returns : goal.returns
 returns c = record {
@@ -19,7 +21,7 @@ returns c = record {
     turn = refl;
   };
   cells = record {
-    states = rw c.copy_from_slice.ensures.after (cells-copied c.args.block.now.from c.args.block.now.to _ c.args.block.now.row.now c.args.self.now.rows.now (in_slot c.requires));
+    states = c.copy_bytes.ensures;
     marks = c.copy_planes.ensures;
   };
   seen = refl;

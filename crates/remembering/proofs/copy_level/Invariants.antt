@@ -1,0 +1,7 @@
+-- The cells passed are copied. Assumes nothing.
+use Rattle.remembering.proofs.CopyLaws.{Copying}
+use Rattle.remembering.proofs.copy_level.Given as goal
+
+abbrev pub invariant-loop-i : goal.invariant-loop-i
+invariant-loop-i l =
+    Copying l.from l.to l.base l.i l.stack l.initial.kept l.kept
