@@ -6,7 +6,7 @@ ghost use Rattle.std.specs.Prelude.{◌≡◌};
 ghost use Rattle.jobs.specs.Check.{ready};
 ghost use Rattle.replies.specs.Replied.{fields_of, reply_from};
 ghost use Rattle.applying.specs.Result.{bounds_from};
-ghost use Rattle.tables.specs.Slices.{table_is, lent_is, set_on};
+ghost use Rattle.tables.specs.Slices.{table_is, lent_is, set_on, SameLengths, SameLent};
 ghost use Rattle.carrying.specs.Carried.{gates_from};
 ghost use Rattle.deciding.specs.Decided.{decided, Deciding};
 
@@ -34,8 +34,10 @@ pub fn decide(
     room: Room,
 ) -> Reply
     requires { Deciding circuit.now files (lent_is table.old) (table_is end.now) met.old stack.old kept.old hints.old room }
-    ensures { fields_of result ≡ reply_from (decided (bounds_from room)
+    ensures value { fields_of result ≡ reply_from (decided (bounds_from room)
         (ready (set_on files.form (lent_is table.old)) (gates_from files.form.n circuit.now 0 files.count) (set_on files.endform (table_is end.now))) terms.most) }
+    ensures long { SameLengths (lent_is table.old) (lent_is table.new) }
+    ensures same_slices { SameLent table.old table.new }
 {
     let mut rows = [0u16; ROWS];
     let mut masks = [0u32; MASKS];
