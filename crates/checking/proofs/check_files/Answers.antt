@@ -42,6 +42,6 @@ pub returns-in-Ok : goal.returns-in-Ok
 returns-in-Ok c =
     let h = good_seen files_of (files_judged (bounds_of c.bounds_of.result) (bounds_of c.bounds_of-2.result) c.args.start.now c.args.circuit.now c.args.end.now) _ c.in-Ok.ensures.value in
     let f = c.in-Ok.files in
-    c.decide.ensures
+    c.decide.ensures.value
     ∙ ap (λ (E : Table). reply_from (decided (bounds_from c.args.room) (ready (set_on f.form (lent_is c.prepare.new.table)) (gates_from f.form.n c.args.circuit.now 0 f.count) (set_on f.endform E)) c.args.terms.most)) c.view-ends.ensures
     ∙ ap reply_from (is_checked c.bounds_of.result c.bounds_of-2.result c.args.room c.args.endroom c.bounds_of.ensures c.bounds_of-2.ensures c.args.start.now c.args.circuit.now c.args.end.now _ h (c.prepare.ensures.holding h.thing h.good) c.args.terms.most)
