@@ -24,13 +24,20 @@ pub struct Mentioned {
     pub count: u16,
 }
 
+// The size that the jobs lend: the remainder by a number that is known is no division.
+const OFTEN: usize = 1024;
+
 // The bucket of a key, below `size`.
 fn bucket_of(key: u64, size: usize) -> usize
     requires { 0 < size }
     ensures { (result ≡ bucket_of size key) × (result < size) }
 {
     let k = key as usize;
-    (k % 65536 + k / 65536 % 65536 * 37 + k / 4294967296 * 7) % size
+    let sum = k % 65536 + k / 65536 % 65536 * 37 + k / 4294967296 * 7;
+    if size == OFTEN {
+        return sum % OFTEN;
+    }
+    sum % size
 }
 
 // Whether a key is among the first `count`, and where. The walk along its bucket's chain goes to ever smaller places, so it ends.
