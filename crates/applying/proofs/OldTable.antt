@@ -1,5 +1,5 @@
 -- A set that stands in slices is what building asks of the old set, and its roots' keys are those of level 1. Assumes nothing.
-use mathlib.Core.Path.{◌≡◌, sym, ap, ◌∙◌, subst}
+use mathlib.Core.Path.{◌≡◌, refl, sym, ap, ◌∙◌, subst}
 use mathlib.Core.List.{List, [], ◌∷◌, map}
 use Prim.Native.Nat.{ℕ, suc, ◌+◌, ◌<◌, ◌≤◌}
 use native.Mathlib.Omega.{arith}
@@ -60,6 +60,11 @@ module _ {rows masks : List ℕ} {coefs : List ℤ} {counts first : List ℕ} {f
     scale = sym (set-k form rows masks coefs counts);
   }
 
+  -- the counts are those of the table itself
+  pub old_counts : old_table.counts ≡ counts
+  unfolding old_table
+  old_counts = refl
+
   pub root_count : get_or counts 0 0 ≤ b.states
   root_count = omega (arith, set-roots form rows masks coefs counts, roots-among Q.counts, s.formed.states)
 
@@ -76,3 +81,8 @@ module _ {rows masks : List ℕ} {coefs : List ℤ} {counts first : List ℕ} {f
     levels = omega (arith, set-n form rows masks coefs counts);
     keys = subst (StatesOf Q 1) (sym (are ∙ root_keys_lem)) (root_states few s.formed);
   }
+
+  pub set_table : (g : Gate) (cur : List ℕ) (light : Light g) (are : take (get_or counts 0 0) cur ≡ map stored (map plain (up_to 0 (get_or counts 0 0))))
+      → (set_going light are).table ≡ old_table
+  unfolding set_going
+  set_table g cur light are = refl

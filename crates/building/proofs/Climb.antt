@@ -94,6 +94,11 @@ module _ (T : Table) (g : Gate) where
             keys = subst (λ (i : ℕ). StatesOf t.set i (take p.keys keys)) up (subst (StatesOf t.set (suc level)) (sym (keys-are ∙ same)) n);
           }
 
+      -- they are those of the same table, with the same counts
+      pub next_table : {k : ℕ} → (go : Going T k g level left cur count) → (next_going go).table ≡ go.table
+      unfolding next_going
+      next_table go = refl
+
       -- the levels below, and this one on top of them
       same-levels : on_top count (grown_level level (start + count) start (take count cur)).records (numbered (level + 1) (left - 1) (start + count) (take p.keys keys)) ≡ numbered level left start (take count cur)
       same-levels =
